@@ -26,7 +26,7 @@ pub fn words_of(alloc: Global, line: &[u8]) -> Result<Option<Vec<Vec<u8>>>, Allo
     })
 }
 
-/// The number that a word of decimal digits stands for, up to 4294967295.
+/// The number that a word of a script's line is, in decimal digits, up to 4294967295.
 pub fn number_of(word: &[u8]) -> Option<u32> {
     if word.is_empty() {
         return None;
@@ -237,7 +237,8 @@ fn times_behind(state: State, byte: u8) -> State {
     }
 }
 
-/// How many times a piece of a word is repeated, with one more digit, up to the most times.
+/// The number in a word of a line that says how many times a piece is repeated, with one more digit, up to the
+/// most times.
 fn longer(number: u32, byte: u8) -> Option<u32> {
     let number = number.checked_mul(10)?.checked_add(digit_of(byte)?)?;
     if number > MOST_TIMES {

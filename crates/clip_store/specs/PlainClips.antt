@@ -28,14 +28,14 @@ with_clip name fragment [] = (name, fragment) ∷ []
 with_clip name fragment (pair ∷ pairs) =
     if bytes_eq name pair.0 then (pair.0, fragment) ∷ pairs else pair ∷ with_clip name fragment pairs
 
--- how many slots the fragments of clips have together
+-- how many slots the fragments of clips as plain data have together
 abbrev pub slots_held : List Pair → ℕ
 slots_held pairs = sum_by slots_of (values_of pairs)
 
--- the clips, each fragment without the room of its lists
+-- clips as plain data, each fragment without the room of its lists
 abbrev pub roomless_pairs : List Pair → List Pair
 roomless_pairs pairs = map (λ pair. (pair.0, roomless_fragment pair.1)) pairs
 
--- the clips as they are kept, in their plain form: each fragment whole, and without the room of its lists
+-- clips as plain data as they are kept: under each name its fragment, whole and without the room of its lists
 abbrev pub kept_pairs : List Pair → List Pair
 kept_pairs pairs = map (λ pair. (pair.0, kept_fragment pair.1)) pairs

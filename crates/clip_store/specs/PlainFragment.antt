@@ -28,11 +28,11 @@ abbrev pub whole_fragment : PlainFragment → PlainFragment
 whole_fragment (PlainFragment.node n) = PlainFragment.node (whole_node n)
 whole_fragment (PlainFragment.phrase p) = PlainFragment.phrase p
 
--- a fragment as a clip keeps it, in its plain form: without the room of its lists, and with nothing elided
+-- a fragment as plain data, as a clip keeps it: without the room of its lists, and with nothing elided
 abbrev pub kept_fragment : PlainFragment → PlainFragment
 kept_fragment fragment = whole_fragment (roomless_fragment fragment)
 
--- how many slots a fragment counts as: those of its nodes, and one for a phrase
+-- how many slots a fragment as plain data counts as: those of its nodes, and one for a phrase
 abbrev pub slots_of : PlainFragment → ℕ
 slots_of (PlainFragment.node n) = count n.inner + 1
 slots_of (PlainFragment.phrase p) = 1

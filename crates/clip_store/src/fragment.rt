@@ -44,7 +44,8 @@ impl Fragment {
         }
     }
 
-    /// How many slots a fragment counts as, or `None` where they are more than all clips may have.
+    /// How many slots the fragment of a clip counts as, a node or a phrase, or `None` where they are more than
+    /// all clips may have.
     pub(crate) fn slots_within_limit(&self) -> Option<u32>
         ensures within { IfSome result (λ slots. slots ≡ slots_of (plain_fragment self.now)) }
         ensures over { IfNone result (most_clip_slots < slots_of (plain_fragment self.now)) }

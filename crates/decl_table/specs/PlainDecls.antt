@@ -8,7 +8,7 @@ use Rattle.plcs_base.specs.declared.place.PhraseAt.{PhraseAt}
 abbrev pub PlainHeadings : Type 0
 PlainHeadings = List (List ℕ × ℕ)
 
--- the uses of names in a table: names with the places of the phrases that mention them
+-- the uses of names in a table of declarations as plain data: names with the places of the phrases that mention them
 abbrev pub PlainUses : Type 0
 PlainUses = List (List ℕ × List PhraseAt)
 

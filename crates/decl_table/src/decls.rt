@@ -135,7 +135,7 @@ fn is_among(name: &Name, names: &[Name]) -> bool
     names.iter().any(|other| name == other)
 }
 
-/// The effective item that a table of declarations has of a name, if it is a scalar.
+/// The item that the table of declarations has for a parameter's name, if it is a scalar.
 fn scalar_item(item: Declared) -> Option<Declared>
     ensures { result ≡ scalar_item item }
 {

@@ -101,7 +101,8 @@ impl Items {
         Ok(())
     }
 
-    /// Why one more item is not effective behind those that are taken, or `None` where it is.
+    /// Why one more item isn't taken among the effective ones of the procedure, behind those that were taken,
+    /// or `None` where it is.
     fn offence(&self, name: &Name, shape: Shape) -> Option<MarkKind>
         ensures { result ≡ item_offence self.now (shaped name.now shape) }
     {

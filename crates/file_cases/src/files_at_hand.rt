@@ -82,7 +82,7 @@ impl<'a, R: rt::Files<File = File> + AllocGlobal> FilesAtHand<'a, R> {
     }
 }
 
-/// Tells the bytes of the file of the system.
+/// Tells the bytes of a file of the system, where the files at hand are those of the system.
 fn tell_file<R: rt::Files + AllocGlobal>(rt: &R, name: &[u8], told: &mut Told) -> Option<()> {
     let name = str::from_utf8(name).ok()?;
     match fs::read(rt, name) {

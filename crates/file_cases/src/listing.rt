@@ -68,7 +68,7 @@ fn tell_reading(reading: Reading, told: &mut Told) {
     }
 }
 
-/// What a text is read as that may be a listing.
+/// What a case finds that a text is read as which may be a listing.
 #[derive(Clone, Copy)]
 pub(crate) enum Reading {
     /// A tree of so many slots, whose listing it is.

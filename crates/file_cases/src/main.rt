@@ -86,7 +86,7 @@ fn play_line<'a, R: Files<File = File> + AllocGlobal>(
     Ok(())
 }
 
-/// Plays a case of files, if it is one.
+/// Plays a case of the script of files, if it is one.
 fn play_case<'a, R: Files<File = File> + AllocGlobal>(
     rt: &'a R,
     scene: &mut Scene<'a, R>,

@@ -62,7 +62,7 @@ fn fails_of(alloc: Global, word: &[u8]) -> Option<Vec<u64>> {
     }
 }
 
-/// Reads from a stream whose call of this number fails.
+/// Reads a source over a stream whose call of this number fails.
 fn read_stumbling(failing: u32, sizes: &[Vec<u8>], told: &mut Told) -> Option<()> {
     reads(&mut StdSource::new(Stumbling::new(failing)), sizes, told)
 }
@@ -127,7 +127,7 @@ fn write_stumbling(failing: u32, pieces: &[Vec<u8>], told: &mut Told) -> Option<
     writes(&mut StdSink::new(Stumbling::new(failing)), pieces, told)
 }
 
-/// Writes to a file of the system, if it could be opened.
+/// Writes to a sink over a file of the system, if that could be opened.
 fn write_file(file: io::Result<File>, pieces: &[Vec<u8>], told: &mut Told) -> Option<()> {
     match file {
         Ok(file) => writes(&mut StdSink::new(file), pieces, told),
@@ -135,7 +135,7 @@ fn write_file(file: io::Result<File>, pieces: &[Vec<u8>], told: &mut Told) -> Op
     }
 }
 
-/// Writes to a file of the system by a writer with a buffer, if it could be made.
+/// Writes to a sink over a file of the system, by a writer with a buffer, if that could be made.
 fn write_buffered(file: io::Result<File>, pieces: &[Vec<u8>], told: &mut Told) -> Option<()> {
     match file {
         Ok(file) => match BufWriter::new(told.alloc(), file) {

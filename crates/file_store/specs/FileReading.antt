@@ -35,7 +35,7 @@ abbrev pub LoadingSays : Option FileMap → List ℕ → Result PlainTree FileRe
 LoadingSays stored name (Ok tree) = Holds stored name (λ x. IsListingOf x tree)
 LoadingSays stored name (Err refusal) = IsLoadRefused stored name refusal
 
--- the law that a file that is loaded as a tree is loaded as that tree without its room
+-- a file of a name that is loaded as a tree is loaded as that tree without its room, too
 abbrev pub LoadingIgnoresRoom : Type 0
 LoadingIgnoresRoom =
     (stored : Option FileMap) (name : List ℕ) (tree : PlainTree) → LoadingSays stored name (Ok tree)
@@ -76,6 +76,6 @@ refusal_of FilesFault.NoFile = FileRefusal.NoFile
 refusal_of FilesFault.Failed = FileRefusal.FileFault
 refusal_of FilesFault.OutOfMemory = FileRefusal.OutOfMemory
 
--- the refusal of a load that wants memory
+-- why the file of a name isn't loaded where memory is wanting
 abbrev pub memory_refusal : FileRefusal
 memory_refusal = FileRefusal.OutOfMemory

@@ -1,4 +1,4 @@
--- The laws of listings.
+-- The laws of listings that are read: a text is that of one program at most, and is refused for one reason at most.
 use Rattle.std.specs.Prelude.{◌≡◌, ℕ, ◌≤◌, List, length, map}
 use Rattle.template_tree.specs.Programs.Limit.{deepest_path, most_slots}
 use Rattle.template_tree.specs.Listings.Line.{listing_lines}

@@ -38,7 +38,7 @@ impl<'a, F: Files> ByteOut for FileOut<'a, F> {
 }
 
 impl<'a, F: Files> FileOut<'a, F> {
-    /// Passes the whole listing on to the file, or keeps the fault that came.
+    /// Passes the bytes of the whole listing on to the file that is begun, or keeps the fault that came.
     pub(crate) fn write_listing(&mut self, tree: &Tree)
         requires tree { IsTree tree.now }
         requires none { self.old.wait.items ≡ [] }
@@ -53,7 +53,7 @@ impl<'a, F: Files> FileOut<'a, F> {
         self.flush();
     }
 
-    /// Puts the listing into the sink.
+    /// Puts the listing of a tree into the sink, which passes its bytes on to the file that is begun.
     fn put_listing(&mut self, tree: &Tree)
         requires tree { IsTree tree.now }
         ensures sent { Sent

@@ -154,14 +154,14 @@ fn counted(opens: bool, opened: u32) -> u32
     if opens { opened + 1 } else { opened }
 }
 
-/// Whether a node begins in the line that the reader takes.
+/// Whether a node begins in the line that the reader of listings takes.
 fn opens(saying: &Saying) -> bool
     ensures { result ≡ opens (saying_of saying.now) }
 {
     matches!(saying, Saying::Head(_, _))
 }
 
-/// Whether the reader has bytes left.
+/// Whether the reader of a listing has bytes of it left.
 fn is_left(bytes: &[u8]) -> bool
     ensures left { result ≡ true → bytes.now ≡ [] → ⊥ }
     ensures none { result ≡ false → bytes.now ≡ [] }

@@ -63,15 +63,16 @@ impl Crash {
         tell_seen(seen, told)
     }
 
-    /// The disk of a session with these keys over an empty one.
+    /// The disk of a session with these keys over an empty one, from which keys are to be recovered after a
+    /// crash.
     fn disk_behind(&mut self, keys: &[u8]) -> Option<MemDisk> {
         let source = source_of(self.alloc, keys)?;
         session(source, empty_disk(self.alloc), &mut self.given)
     }
 
-    /// After how many calls of the session that may crash so many keys were given, and no more. A session with one key
-    /// more goes on behind one with fewer, so while it has done fewer calls than one with all the keys up to the next,
-    /// so many were given.
+    /// After how many calls of the session so many keys were given, and no more, which are those to be
+    /// recovered after a crash. A session with one key more goes on behind one with fewer, so while it has done
+    /// fewer calls than one with all the keys up to the next, so many were given.
     fn end_of(&mut self, keys: &[u8], given: usize) -> Option<usize> {
         let calls = self.whole.done().len();
         if given >= keys.len() {
@@ -81,8 +82,8 @@ impl Crash {
         Some(behind.done().len().min(calls))
     }
 
-    /// How many images a crash may leave at these moments, where so many of the keys or one more are recovered from
-    /// each; or the first moment at which that isn't so.
+    /// Whether after a crash at each of these moments so many of the keys or one more are recovered: from how
+    /// many images, or else the first moment at which that isn't so.
     fn images_between(
         &mut self,
         start: usize,
@@ -100,7 +101,8 @@ impl Crash {
         Some(Ok(seen))
     }
 
-    /// How many images a crash may leave after so many calls of the whole session, where that is so.
+    /// How many images a crash may leave after so many calls of the case's whole session, where the keys that
+    /// are recovered from each are those that were given, or one more.
     fn images_at(&mut self, moment: usize, keys: &[u8], given: usize) -> Option<Option<u64>> {
         let calls = self.whole.done();
         self.images.find(&calls[..moment.min(calls.len())])?;
@@ -142,7 +144,7 @@ fn note(alloc: Global, keys: &Vec<u8>, recovered: &mut Vec<Vec<u8>>) -> Option<(
     recovered.push(keys.as_slice().to_vec(alloc).ok()?).ok()
 }
 
-/// Whether the keys that were recovered are the first ones, so many or one more.
+/// Whether the keys that are recovered after a crash are the first ones, so many or one more.
 fn is_given(recovered: &[u8], keys: &[u8], given: usize) -> bool {
     keys.starts_with(recovered) && recovered.len() >= given && recovered.len() - given <= 1
 }

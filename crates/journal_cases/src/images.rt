@@ -1,4 +1,4 @@
-//! The images of a disk that a crash may leave.
+//! The images of a disk that a crash may leave, as cases of the journal find them.
 
 use crate::sessions::empty_disk;
 use key_journal::{Disk, DiskCall, MemDisk};

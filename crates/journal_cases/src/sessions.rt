@@ -19,8 +19,8 @@ pub(crate) fn empty_disk(alloc: Global) -> MemDisk {
     MemDisk::new(alloc, Vec::new(alloc))
 }
 
-/// Plays a session over the disk with the new keys of this source: finds the keys that it gives, and hands back the
-/// disk.
+/// Plays a session over a journal on the disk, up to the end of this source of new keys: finds the keys that it
+/// gives, and hands back the disk.
 pub(crate) fn session(source: MemSource, disk: MemDisk, given: &mut Vec<u8>) -> Option<MemDisk> {
     given.clear();
     match JournalKeys::open(source, disk) {

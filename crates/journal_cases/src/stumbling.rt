@@ -54,7 +54,7 @@ fn tell_session(source: MemSource, file: Stumbling, told: &mut Told) -> FileDisk
     }
 }
 
-/// Tells that a journal wasn't opened for this fault.
+/// Tells that a journal wasn't opened over a file of which a call failed, for this fault.
 fn tell_fault(fault: DiskFault, told: &mut Told) {
     told.text("Err(");
     told.value(&fault);

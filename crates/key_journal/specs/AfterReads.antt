@@ -39,7 +39,7 @@ pub record CountsEnds {S D : Type 0} (left : S → Option (List ℕ)) (past : D 
   pub noted : first.ended ≡ false → ends ≡ 0 → now.ended ≡ false
   pub at_end : first.ended ≡ false → now.ended ≡ true →
       IsAtEnd (left now.inner) × (drop now.given (kept_keys (past now.disk)) ≡ [])
-  -- where both are told, no key comes behind the end
+  -- over the reads, where source and disk are told, no key comes after the end
   pub stays : first.ended ≡ false → IsSome (left first.inner) → past now.disk ≢ [] →
       (ends ≡ 0) ⊎ (now.ended ≡ true)
 
@@ -60,7 +60,7 @@ pub record LeadsTo {S D : Type 0} (left : S → Option (List ℕ)) (source_fault
   pub source : leads_to first.inner now.inner
   pub source_same : source_faults now.inner ≡ source_faults first.inner
   pub disk_same : disk_faults now.disk ≡ disk_faults first.disk
-  -- the bytes that were taken from the source
+  -- the bytes that were taken from the source over some reads of the journal
   pub taken : List ℕ
   pub consumes : Consumes (left first.inner) (left now.inner) taken
   pub given_later : first.given ≤ now.given

@@ -37,8 +37,7 @@ Throughout P [] now = now ≡ []
 Throughout P (state ∷ past) now =
     (added : List DiskState) × (now ≡ added ++ state ∷ past) × EachState P added
 
--- what a crash leaves over some reads: the first keys, and then some of those that followed them, in
--- their order
+-- the first keys are recovered after a crash, and perhaps some of those that follow them, in their order
 abbrev pub LeavesBetween : List ℕ → List ℕ → DiskState → Type 0
 LeavesBetween first all = EachRecovers (λ found. (more : List ℕ) × (rest : List ℕ) ×
     (found ≡ first ++ more) × (all ≡ found ++ rest))

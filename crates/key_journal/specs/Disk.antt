@@ -75,17 +75,17 @@ Syncs (state ∷ past) now = now ≡ with_sync state ∷ state ∷ past
 abbrev pub ReadsAsImage : DiskState → Type 0
 ReadsAsImage state = MayLeave state state.bytes
 
--- a write keeps what a disk reads as among the images that a crash may leave
+-- a write to any disk keeps what it reads as among the images that a crash may leave of it
 abbrev pub WritesKeepImages : Type 0
 WritesKeepImages = (state : DiskState) (at : ℕ) (piece : List ℕ) → at ≤ length state.bytes →
     ReadsAsImage state →
     ReadsAsImage (with_range state at (length piece) (overwritten state.bytes at piece))
 
--- a write that was done in part keeps what a disk reads as among these images, too
+-- a write to any disk that was done in part keeps what it reads as among these images, too
 abbrev pub TearsKeepImages : Type 0
 TearsKeepImages = (state : DiskState) (at count : ℕ) (bytes : List ℕ) →
     Torn at count state.bytes bytes → ReadsAsImage state → ReadsAsImage (with_range state at count bytes)
 
--- a sync makes what a disk reads as one of the images that a crash may leave
+-- a sync of any disk makes what it reads as one of the images that a crash may leave of it
 abbrev pub SyncsMakeImages : Type 0
 SyncsMakeImages = (state : DiskState) → ReadsAsImage (with_sync state)

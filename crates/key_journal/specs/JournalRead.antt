@@ -29,7 +29,7 @@ abbrev pub NextOrEnd : Option ℕ → Option (List ℕ) → ℕ → List ℕ →
 NextOrEnd (Some key) left place keys taken past = Newest (Gave place key (keys ++ taken)) past
 NextOrEnd None left place keys taken past = Ends left place keys taken past
 
--- one more key of a journal was read, or the end, after so many keys
+-- a read of a journal gave one more key, or the end, after so many keys
 pub record ReadsKey {E : Type 0} (left left_after : Option (List ℕ)) (place : ℕ)
     (past past_after : List DiskState) (result : Result (Option ℕ) E) : Type 0 where
   -- the bytes that were taken from the source: at most one, and only once all kept keys were given

@@ -13,8 +13,8 @@ use super::writes::write_synced;
 use super::{Disk, DiskFault};
 use synth_outside::{Source, SourceFault};
 
-/// The next key: the next one that is kept, or the next byte of the source, which is kept before it is
-/// given.
+/// The next key: the next one that is kept on the disk, or else a new one, which is taken from the source and
+/// kept before it is given.
 pub(crate) fn next_key<S: Source, D: Disk>(
     inner: &mut S,
     disk: &mut D,

@@ -70,7 +70,8 @@ pub static CALLS: [(&[u8], Call); 27] = [
     (b"no_message", Call::NoMessage),
 ];
 
-/// Makes the call that a script names with these arguments, and puts what it answers, if it takes such arguments.
+/// Makes this one of the calls that a script may name, with these arguments, and puts what it answers, if it
+/// takes such arguments.
 pub fn play(call: Call, arguments: &[Vec<u8>], told: &mut Told) -> Option<()> {
     match (call, arguments) {
         (Call::Class(class), []) => put_class(class, told),
@@ -86,7 +87,7 @@ pub fn play(call: Call, arguments: &[Vec<u8>], told: &mut Told) -> Option<()> {
     }
 }
 
-/// Makes a call that a script names and that takes one argument.
+/// Makes one of the calls that a script may name, if it takes one argument.
 fn play_one(call: Call, argument: &[u8], told: &mut Told) -> Option<()> {
     match call {
         Call::ReadName => put_name(argument, told),

@@ -1,4 +1,4 @@
-//! Cases on built-in functions, signs, constants, placeholders and templates.
+//! Cases on built-in functions, signs, constants, blanks at the ends of texts, placeholders and templates.
 use crate::tell::{named, tell_named};
 use case_script::{Told, number_of};
 use plcs_base::{ByteOut, put_bytes};

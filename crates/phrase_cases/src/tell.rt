@@ -12,7 +12,7 @@ pub fn tell_named(name: &str, bytes: &[u8], told: &mut Told) {
     told.word(bytes);
 }
 
-/// Tells the bytes as a word, or `None`.
+/// Tells in an answer the bytes that were found, as a word, or else the name `None` of the code.
 pub fn tell_found(found: Option<&[u8]>, told: &mut Told) {
     match found {
         Some(bytes) => told.word(bytes),

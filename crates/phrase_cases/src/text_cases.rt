@@ -78,7 +78,7 @@ fn is_copied(alloc: Global, phrase: &Phrase, text: &[u8]) -> bool {
     }
 }
 
-/// Whether the canonical text of the phrase reads as the same phrase, which has it again.
+/// Whether the text that is shown of a phrase is parsed as the same phrase, of which the same is shown.
 fn is_read_again(alloc: Global, phrase: &Phrase, text: &[u8]) -> bool {
     match parsed(alloc, phrase.category(), text) {
         Some(Ok(again)) => same_phrase(phrase, &again) && shown(alloc, &again).as_bytes() == text,

@@ -14,7 +14,7 @@ pub fn bit_constant(text: &[u8]) -> Option<bool>
     }
 }
 
-/// The bit that the digit of a bit constant stands for.
+/// The bit that a digit of a bit constant at the front of a text stands for.
 fn bit_value(digit: u8) -> Option<bool>
     ensures { result ≡ bit_value digit }
 {

@@ -5,11 +5,11 @@ use Rattle.std.specs.Prelude.{ℕ, ◌+◌, ◌-◌, ◌^◌, ◌≤◌, min, ma
 abbrev pub raised : ℕ → ℕ
 raised count = max count (min (count + 1) (2 ^ 64 - 1))
 
--- the count rose between two moments, or was at its last value already
+-- a count was raised by one or more between two moments, or was at its greatest number already
 abbrev pub Rose : ℕ → ℕ → Type 0
 Rose before now = raised before ≤ now
 
--- the count rose by so much between two moments, or is at its last value
+-- a count was raised by so much between two moments, or is at its greatest number
 abbrev pub RoseBy : ℕ → ℕ → ℕ → Type 0
 RoseBy much before now = min (before + much) (2 ^ 64 - 1) ≤ now
 

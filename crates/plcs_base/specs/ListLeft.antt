@@ -12,7 +12,7 @@ left_from items k x there =
     ∙ ap (λ first. first ∷ drop (suc k) items) (get_or_from_slice_get items k x x there)
     ∙ ap (λ n. x ∷ drop n items) (sym (add-one k))
 
--- where none is found the list is past
+-- where no item of a list that is gone through in order is found, the list is past
 pub past_where_none : {X : Type 0} (items : List X) (k : ℕ) → slice_get items k ≡ None → length items ≤ k
 past_where_none items k none =
     ⊎_elim (λ found. absurd (none-some found.0 (sym none ∙ found.2))) (λ past. past.0) (slice_get_cases items k).1

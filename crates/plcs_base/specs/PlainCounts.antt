@@ -14,19 +14,19 @@ pub record PlainCounts : Type 0 where
 abbrev pub CountsNothing : PlainCounts → PlainCounts → Type 0
 CountsNothing before now = now ≡ before
 
--- an instruction that was emitted is counted, and nothing else
+-- in the counts of work an instruction that was emitted is counted, and nothing else
 abbrev pub EmitsOne : PlainCounts → PlainCounts → Type 0
 EmitsOne before now = now ≡ record before { emitted = raised before.emitted }
 
--- a phrase that was checked is counted, and nothing else
+-- in the counts of work a phrase that was checked is counted, and nothing else
 abbrev pub ChecksOne : PlainCounts → PlainCounts → Type 0
 ChecksOne before now = now ≡ record before { checked = raised before.checked }
 
--- an instruction that was fetched is counted, and nothing else
+-- in the counts of work an instruction that was fetched is counted, and nothing else
 abbrev pub FetchesOne : PlainCounts → PlainCounts → Type 0
 FetchesOne before now = now ≡ record before { fetched = raised before.fetched }
 
--- a line that was laid out is counted, and nothing else
+-- in the counts of work a line that was laid out is counted, and nothing else
 abbrev pub LaysOne : PlainCounts → PlainCounts → Type 0
 LaysOne before now = now ≡ record before { laid = raised before.laid }
 

@@ -1,7 +1,8 @@
 -- What it means to put several bytes, and the law that they can be put in turn.
 use Rattle.std.specs.Prelude.{◌↔◌, ℕ, List, [], ◌∷◌, ◌++◌}
 
--- the value after is reached from the value before by putting the bytes, one after the other
+-- what it means to put several bytes: the value after is reached from the value before by putting them, one after the
+-- other
 pub data PutsAll {Out : Type 0} (puts : Out → ℕ → Out → Type 0) : Out → List ℕ → Out → Type 0 where
   puts_nothing : {out : Out} → PutsAll puts out [] out
   puts_next : {before between after : Out} {byte : ℕ} {bytes : List ℕ}

@@ -8,6 +8,6 @@ use Rattle.plcs_base.specs.declared.declared.Declared.{Declared}
 abbrev pub ItemMap : Type 0
 ItemMap = FinMap nat_cmp (List Declared)
 
--- the effective item of this number, counted from 0, of the procedure in this slot, if there is one
+-- the effective item of this number, counted from 0, that the procedure in this slot declares, if there is one
 abbrev pub item_at : ItemMap → ℕ → ℕ → Option Declared
 item_at scope slot k = option_and_then (λ items. slice_get items k) (get scope slot)

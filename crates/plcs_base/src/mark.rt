@@ -43,7 +43,7 @@ pub trait Marked {
 
     ghost marks: { Self → MarkMap };
 
-    /// The mark of the phrase, which says what is wrong with it, or `None` where nothing is.
+    /// What is wrong with the phrase, as the marks of phrases tell it, or `None` where nothing is.
     fn mark(&self, at: PhraseAt) -> Option<MarkKind>
         ensures { result ≡ get (marks self.now) at };
 }

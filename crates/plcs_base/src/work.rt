@@ -25,7 +25,7 @@ pub trait Work {
         ensures counts { LaysOne (counts self.old) (counts self.new) };
 }
 
-/// The four counts of the editor's work as plain numbers, each of which stays at its last value.
+/// The four counts of the editor's work, each of which stays at its last value.
 #[derive(Clone, Copy, Debug, Default, PartialEq, Eq)]
 pub struct Counts {
     /// Instructions emitted.

@@ -117,7 +117,7 @@ pub record SpansHoldCode : Type 0 where
 
 -- ---- places
 
--- whether the marks have one of the first phrase in the slot, as the law of places asks
+-- whether the marks have one of the first phrase in the slot, as the law of code asks on the addresses of places
 abbrev pub is_marked_first : MarkMap → (slot : ℕ) → Bool
 is_marked_first marks slot = is_some (get marks (phrase_at slot 0))
 

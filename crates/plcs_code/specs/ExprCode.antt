@@ -4,7 +4,7 @@ use Rattle.plcs_grammar.specs.PlainPhrase.{PlainExpr, PlainExprs, PlainVarRef, P
 use Rattle.template_tree.specs.Positions.Place.{place_at}
 use Rattle.plcs_code.specs.PlainInstr.{PlainInstr}
 
--- how many expressions a list has
+-- how many expressions stand in a list of which the code is made
 abbrev pub expr_count : PlainExprs → ℕ
 expr_count PlainExprs.nil = 0
 expr_count (PlainExprs.cons e es) = expr_count es + 1
@@ -51,7 +51,7 @@ abbrev pub arguments_instrs : PlainExprs → List PlainInstr
 arguments_instrs PlainExprs.nil = []
 arguments_instrs (PlainExprs.cons a rest) = argument_instrs a ++ arguments_instrs rest
 
--- the code of the items of a GET in a slot, of which the first has this number: each is a step of its own
+-- the code of the items in the phrase of a GET in a slot, of which the first has this number: each is a step of its own
 abbrev pub items_instrs : (slot k : ℕ) → List PlainVarRef → List PlainInstr
 items_instrs slot k [] = []
 items_instrs slot k (target ∷ targets) =
@@ -83,7 +83,7 @@ abbrev pub part_instrs : Option PlainPhrase → List PlainInstr
 part_instrs None = []
 part_instrs (Some phrase) = phrase_instrs phrase
 
--- the expressions in the list in a part: none where no list stands there
+-- the expressions of which the code of a phrase is made that is a list: none where no list stands in the part
 abbrev pub listed_exprs : Option PlainPhrase → PlainExprs
 listed_exprs (Some (PlainPhrase.expression_list es)) = es
 listed_exprs other = PlainExprs.nil
@@ -92,12 +92,12 @@ listed_exprs other = PlainExprs.nil
 abbrev pub listed_instrs : (make : ℕ → PlainInstr) → PlainExprs → List PlainInstr
 listed_instrs make es = exprs_instrs es ++ (make (expr_count es) ∷ [])
 
--- the variables in the list in a part, as the code of a GET has them: none where no list stands there
+-- the variables of which the code of a phrase is made that is the list of a GET: none where no list stands in the part
 abbrev pub get_targets : Option PlainPhrase → List PlainVarRef
 get_targets (Some (PlainPhrase.variable_list targets)) = targets
 get_targets other = []
 
--- the variable in a part, with which a loop counts, as its code has it, if it is there
+-- the variable with which a loop counts, as the code of the phrase in a part has it, if it is there
 abbrev pub counter_name : Option PlainPhrase → Option (List ℕ)
 counter_name (Some (PlainPhrase.variable_name name)) = Some name
 counter_name other = None

@@ -27,19 +27,19 @@ abbrev pub codes_joined : List (List PlainInstr) → List PlainInstr
 codes_joined [] = []
 codes_joined (code ∷ codes) = code ++ codes_joined codes
 
--- the codes of the nodes inside a node, with what stands behind the first one
+-- in the code that is made of a program, the codes of the nodes inside a node, with what stands behind the first one
 abbrev pub codes_around : (between : List PlainInstr) → List (List PlainInstr) → List PlainInstr
 codes_around between [] = between
 codes_around between (code ∷ codes) = code ++ (between ++ codes_joined codes)
 
--- the code of a node: its pieces and its jumps, and the codes of the nodes inside it
+-- the code that is made of a node of a program: its pieces and its jumps, and the codes of the nodes inside it
 abbrev pub code_with : CodePieces → CodeJumps → List (List PlainInstr) → List PlainInstr
 code_with own jumps codes =
     own.before
     ++ (option_to_list jumps.ahead
     ++ (codes_around (option_to_list jumps.between) codes ++ (own.behind ++ option_to_list jumps.back)))
 
--- the code of a node, inside which the nodes have these codes
+-- the code that is made of a node of a program, where these codes are made of the nodes inside it
 abbrev pub code_around : MarkMap → ItemMap → Label → List (List PlainInstr) → List PlainInstr
 code_around marks items label codes =
     code_with (pieces marks items label) (jumps marks items label (map length codes)) codes
@@ -50,7 +50,8 @@ node_codes marks items Forest.nil = []
 node_codes marks items (Forest.cons label inner rest) =
     code_around marks items label (node_codes marks items inner) ∷ node_codes marks items rest
 
--- the own code of a node, without that of the nodes inside it, whose codes have these lengths
+-- the own code of a node in the code of a program made afresh, without that of the nodes inside it, whose codes have
+-- these lengths
 abbrev pub own_instrs : MarkMap → ItemMap → Label → (lengths : List ℕ) → List PlainInstr
 own_instrs marks items label lengths =
     let own = pieces marks items label in
@@ -58,11 +59,13 @@ own_instrs marks items label lengths =
     own.before
     ++ (option_to_list around.ahead ++ (option_to_list around.between ++ (own.behind ++ option_to_list around.back)))
 
--- how many instructions a node's own code has, which doesn't depend on what stands inside it
+-- how many instructions of its own a node has in the code of a program made afresh, which doesn't depend on what stands
+-- inside it
 abbrev pub own_length : MarkMap → ItemMap → Label → ℕ
 own_length marks items label = length (own_instrs marks items label [])
 
--- how many instructions the code of a node has, inside which the codes of nodes have these lengths
+-- how many instructions a node has in the code of a program made afresh, where the codes of the nodes inside it have
+-- these lengths
 abbrev pub length_around : MarkMap → ItemMap → Label → (lengths : List ℕ) → ℕ
 length_around marks items label lengths = own_length marks items label + sum lengths
 
@@ -72,7 +75,7 @@ node_lengths marks items Forest.nil = []
 node_lengths marks items (Forest.cons label inner rest) =
     length_around marks items label (node_lengths marks items inner) ∷ node_lengths marks items rest
 
--- the own code of what stands at a site: none where it isn't there
+-- in the code of a program made afresh, the own code of what stands at a site: none where it isn't there
 abbrev pub site_code : MarkMap → ItemMap → Option Site → List PlainInstr
 site_code marks items None = []
 site_code marks items (Some site) = own_instrs marks items site.label (node_lengths marks items site.inner)
@@ -152,7 +155,7 @@ node_address node =
 
 -- ---- where procedures are entered
 
--- the order of names in the map of effective headings: that of their bytes
+-- the order of names in the map of effective headings that the code of a program has: that of their bytes
 abbrev pub name_cmp : List ℕ → List ℕ → Ordering
 name_cmp = slice_cmp nat_cmp
 

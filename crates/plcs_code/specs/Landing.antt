@@ -47,7 +47,7 @@ abbrev pub length_before : MarkMap → ItemMap → Label → (inner : Forest) �
 length_before marks items label inner =
     length (pieces marks items label).before + length (option_to_list (jumps marks items label (node_lengths marks items inner)).ahead)
 
--- what stands inside a node, a statement among it, begins with the step at which a run begins that comes to it
+-- in code the body of a node, a statement in it, begins at once with the place at which a run begins that comes to it
 abbrev pub BodiesBegin : Type 0
 BodiesBegin =
     (marks : MarkMap) (items : ItemMap) (program : Forest) (slot : ℕ) (found : Site) (behind : PlainPlace) → IsProgram program
@@ -69,7 +69,7 @@ SecondBodiesBegin =
 
 -- ---- where steps stand
 
--- the address of a place whose slot stands but once is where the step stands that ends there
+-- a run in code comes to a step that ends at a place, whose slot stands but once, at the address of the place
 abbrev pub StepsHaveAddresses : Type 0
 StepsHaveAddresses =
     (marks : MarkMap) (items : ItemMap) (program : Forest) (place : PlainPlace) (found : Site) (address : ℕ)

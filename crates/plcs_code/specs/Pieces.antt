@@ -217,7 +217,7 @@ template_jumps slot counter all one before first others Template.Comment = no_ju
 template_jumps slot counter all one before first others Template.Proc = no_jumps
 template_jumps slot counter all one before first others Template.ProcP = no_jumps
 
--- the jumps of a node of the kind, as those of a template are told
+-- the jumps that the table of code has for each kind of node, told as those of a template are
 abbrev pub kind_jumps : (slot : ℕ) (counter : Option (List ℕ)) (all one : Bool) (before first others : ℕ) → NodeKind → CodeJumps
 kind_jumps slot counter all one before first others NodeKind.DeclarationHole = no_jumps
 kind_jumps slot counter all one before first others NodeKind.StatementHole = no_jumps
@@ -227,8 +227,8 @@ kind_jumps slot counter all one before first others NodeKind.Assign = no_jumps
 kind_jumps slot counter all one before first others (NodeKind.Filled template) =
     template_jumps slot counter all one before first others template
 
--- the jumps of a node, before what is inside of which so many instructions stand, where its first node has code of one
--- length, and the others together of another
+-- the jumps that the table of code has for a node, before what is inside of which so many instructions stand, where its
+-- first node has code of one length, and the others together of another
 abbrev pub own_jumps : MarkMap → Label → (before first others : ℕ) → CodeJumps
 own_jumps marks label before first others =
     kind_jumps label.slot (counter_name (part_at label.parts 0)) (is_some (suspension marks label.slot label.parts))

@@ -39,7 +39,7 @@ pub data PlainInstr : Type 0 where
   cell : List ℕ → ItemType → ℕ → PlainInstr
   leave : PlainInstr
 
--- the place of a run that has this plain form
+-- the place of a run that instructions as plain data have in this plain form
 abbrev pub place_of : PlainPlace → Place
 place_of at = record { slot = record { 0 = at.slot }; point = record { 0 = at.point } }
 

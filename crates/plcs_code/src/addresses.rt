@@ -127,8 +127,8 @@ impl Addresses {
     }
 }
 
-/// Whether a run that comes to a node of the kind goes to its first item at once, so that its start has the address
-/// of that.
+/// Whether a run that comes to a node of the kind goes to its first item at once, so that the place where it
+/// starts has the address of the item's place.
 fn passes_in(kind: NodeKind) -> bool
     ensures { result ≡ passes_in kind }
 {
@@ -142,8 +142,8 @@ fn passes_in(kind: NodeKind) -> bool
     }
 }
 
-/// Whether a run that comes to the template goes to its first item at once, so that its start has the address of
-/// that.
+/// Whether a run that comes to the template goes to its first item at once, so that the place where it starts
+/// has the address of the item's place.
 fn passes_in_template(template: Template) -> bool
     ensures { result ≡ passes_in_template template }
 {
@@ -167,7 +167,7 @@ fn passes_in_template(template: Template) -> bool
     }
 }
 
-/// Whether a node of the kind is a call, which has an address where it comes back.
+/// Whether a node of the kind is a call, of which the place where it comes back has an address too.
 fn is_call(kind: NodeKind) -> bool
     ensures { result ≡ is_call kind }
 {
@@ -181,7 +181,7 @@ fn is_call(kind: NodeKind) -> bool
     }
 }
 
-/// Whether the template is a call, which has an address where it comes back.
+/// Whether the template is a call, of which the place where it comes back has an address too.
 fn is_call_template(template: Template) -> bool
     ensures { result ≡ is_call (NodeKind.Filled template) }
 {

@@ -49,7 +49,7 @@ pub fn generate<W: Work, M: Marked, D: Scope>(
     })
 }
 
-/// Lays the code of main and of each procedure, and notes their headings.
+/// Makes the code of main and of each procedure afresh, and notes their headings.
 fn lay_program<W: Work, M: Marked, D: Scope>(
     alloc: Global,
     tree: &Tree,

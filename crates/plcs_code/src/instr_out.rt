@@ -116,7 +116,7 @@ impl<W: Work> InstrOut<W> for Draft<W> {
     }
 }
 
-/// A copy of a text in a box, for the instruction that is laid into a draft.
+/// What is laid into a draft of the text of an instruction: a copy in a box.
 fn boxed(alloc: Global, text: &TextValue) -> Result<Box<TextValue>, OutOfMemory>
     ensures { IfOk result (λ copy. box_value copy ≡ text.now) }
 {

@@ -183,7 +183,7 @@ fn back_by(back: u32) -> i32
     -(back as i32)
 }
 
-/// Lays one of the jumps of a node's own code, if there is one.
+/// Lays one of the jumps that a node's own code has by the lengths of the codes inside it, if there is one.
 pub(crate) fn lay_jump<W: Work, O: InstrOut<W>>(jump: Option<Instr>, out: &mut O, work: &mut W)
     ensures { LaysAll O.lays out.old (W.counts work.old) (option_to_list (option_map plain_instr jump))
         out.new (W.counts work.new) }

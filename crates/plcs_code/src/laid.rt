@@ -33,7 +33,8 @@ pub(crate) struct Laid<W> {
     pub(crate) spans: Vec<NodeSpan>,
 }
 
-/// The jumps of a node that come behind nodes inside it, each one instruction or none.
+/// The jumps of a node that are still to be laid in the code of the program, behind nodes inside it, each one
+/// instruction or none.
 #[derive(Drop)]
 struct JumpsBehind {
     /// Behind the code of the first of them.
@@ -63,7 +64,7 @@ impl<W> Laid<W> {
         }
     }
 
-    /// How many instructions are laid so far.
+    /// How many instructions of the program's code are laid so far.
     pub(crate) fn length(&self) -> u32
         ensures { result ≡ length self.now.instrs }
     {
@@ -211,7 +212,8 @@ impl<W: Work> Laid<W> {
         })
     }
 
-    /// Lays what stands in a node's own code before what is inside, and answers how much that is.
+    /// Lays, in the code of the program, what stands in a node's own code before the nodes inside it, and
+    /// answers how much that is.
     fn lay_before<M: Marked>(
         &mut self,
         alloc: Global,
@@ -235,7 +237,7 @@ impl<W: Work> Laid<W> {
         Ok(self.draft.end()? - start)
     }
 
-    /// Lays what stands behind the nodes inside a node, with the jump back.
+    /// Lays the rest of a node's code in that of the program, behind the nodes inside it, with the jump back.
     fn lay_rest<M: Marked>(
         &mut self,
         node: &Node,

@@ -77,7 +77,8 @@ fn lay_template<W: Work, O: InstrOut<W>>(
     }
 }
 
-/// Lays the piece of one instruction alone, at the start of a slot, before what is inside.
+/// Lays what stands before the codes of the nodes inside a node where that is one instruction alone, at the
+/// start of its slot.
 fn lay_alone<W: Work, O: InstrOut<W>>(slot: Slot, instr: Instr, out: &mut O, work: &mut W)
     ensures { LaysAll O.lays out.old (W.counts work.old) (piece_at slot.0 0 None (plain_instr instr ∷ []))
         out.new (W.counts work.new) }
@@ -87,7 +88,8 @@ fn lay_alone<W: Work, O: InstrOut<W>>(slot: Slot, instr: Instr, out: &mut O, wor
     out.put(instr, work);
 }
 
-/// Lays the instructions that make the cells of a procedure with these parameters, before what is inside.
+/// Lays what stands in the own code of a procedure with these parameters before that of the nodes inside it:
+/// the instructions that make its cells.
 fn lay_items_of<W: Work, O: InstrOut<W>>(
     items: &[Declared],
     names: &[Name],

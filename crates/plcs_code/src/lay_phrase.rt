@@ -91,8 +91,7 @@ fn put_call<W: Work, O: InstrOut<W>>(name: &Name, arguments: usize, out: &mut O,
     out.put(Instr::Call(name_of(name), arguments as u32), work);
 }
 
-/// Lays the codes of the items of a GET in a slot, of which the first has this number. Each is a step of
-/// its own.
+/// Lays the code of the phrase of a GET in a slot: that of each of its items, which is a step of its own.
 pub(crate) fn lay_items<W: Work, O: InstrOut<W>>(
     alloc: Global,
     slot: Slot,
@@ -110,7 +109,7 @@ pub(crate) fn lay_items<W: Work, O: InstrOut<W>>(
     }
 }
 
-/// Lays the place of an item of a GET, at which a step ends.
+/// Lays the place of an item in the code of a GET's phrase, at which a step ends.
 fn put_item_place<W: Work, O: InstrOut<W>>(slot: Slot, k: usize, out: &mut O, work: &mut W)
     ensures { LaysAll O.lays out.old (W.counts work.old) (PlainInstr.place (place_at slot.0 k) ∷ []) out.new
         (W.counts work.new) }

@@ -128,7 +128,7 @@ pub(crate) fn lay_put<W: Work, O: InstrOut<W>>(
     }
 }
 
-/// Lays the code of expressions, and the instruction that writes them.
+/// Lays the piece of a PUT: the code of its expressions, and the instruction that writes them.
 fn lay_listed<W: Work, O: InstrOut<W>>(
     alloc: Global,
     exprs: &[Expr],

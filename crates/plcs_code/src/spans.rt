@@ -84,7 +84,8 @@ impl Spans {
     }
 }
 
-/// Whether a node of the kind has code, and so a span: a declaration has none, nor a hole for a procedure.
+/// Whether the slot of a node of the kind has a span, that of the node's code: a declaration has no code, nor
+/// has a hole for a procedure.
 fn has_code(kind: NodeKind) -> bool
     ensures { result ≡ has_code kind }
 {

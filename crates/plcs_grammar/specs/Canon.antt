@@ -50,7 +50,8 @@ abbrev mutual
   canon_behind (PlainExprs.cons a rest) = comma ++ (canon a ++ canon_behind rest)
 
 module _ {X : Type 0} (bytes_of : X → List ℕ) where
-  -- the canonical texts of a list's elements behind the first one, of whatever kind, each behind a comma and a blank
+  -- in the canonical text of a list of whatever kind, the texts of the elements behind the first one, each behind a
+  -- comma and a blank
   abbrev pub more_joined : List X → List ℕ
   more_joined [] = []
   more_joined (x ∷ xs) = comma ++ (bytes_of x ++ more_joined xs)
@@ -89,10 +90,10 @@ Canon (PlainPhrase.name_list names) = joined (λ name. name) names
 Canon (PlainPhrase.greatest_length n) = decimal n
 Canon (PlainPhrase.comment bytes) = bytes
 
--- the greatest length of a canonical text that is told; a longer one is told as this
+-- the greatest length of the canonical text of a phrase that is told; a longer one is told as this
 abbrev pub longest_shown : ℕ
 longest_shown = 4294967295
 
--- the phrase is what its canonical text reads as
+-- the canonical text of the phrase reads as that same phrase
 abbrev pub IsWellFormed : Category → PlainPhrase → Type 0
 IsWellFormed category phrase = Reads category (Canon phrase) phrase

@@ -11,7 +11,7 @@ use Rattle.plcs_grammar.specs.Cuts.{trimmed}
 abbrev pub comment_end : List ℕ
 comment_end = codes "*/"
 
--- the placeholder of a comment's text, which is no such text
+-- what is no text of a comment: the placeholder of one
 abbrev pub comment_placeholder : List ℕ
 comment_placeholder = placeholder CommentText
 
@@ -30,7 +30,7 @@ comment_offence place (byte ∷ rest) =
     if not (is_printable byte) || starts_with nat_eq (byte ∷ rest) comment_end then Some place
     else comment_offence (place + 1) rest
 
--- the place where the text is refused as a comment's, if it is: its end where it is blank, 0 for the placeholder
+-- the place in the text of a comment that makes it none, if one does: its end where it is blank, 0 for the placeholder
 abbrev pub comment_syntax : List ℕ → Option ℕ
 comment_syntax x =
     if bytes_eq (trimmed x) [] then Some (length x)

@@ -22,7 +22,7 @@ blanks x = prefix_len is_blank x
 abbrev pub unblanked : List ℕ → List ℕ
 unblanked x = drop (blanks x) x
 
--- a text without the blanks at both its ends, as a comment's is read
+-- a whole text that isn't cut into tokens, without the blanks at both its ends, as a comment's is read
 abbrev pub trimmed : List ℕ → List ℕ
 trimmed x = reverse (unblanked (reverse (unblanked x)))
 

@@ -39,7 +39,7 @@ abbrev pub with_quotes_doubled : List ℕ → List ℕ
 with_quotes_doubled [] = []
 with_quotes_doubled (byte ∷ rest) = doubled byte ++ with_quotes_doubled rest
 
--- a character constant as it is written: its value between quotes, with each quote in it twice
+-- how a token that is a character constant is written: its value between quotes, with each quote in it twice
 abbrev pub quoted : List ℕ → List ℕ
 quoted bytes = quote ∷ (with_quotes_doubled bytes ++ (quote ∷ []))
 
@@ -60,7 +60,7 @@ numeral_value digits = number_from_digits 10 (map (λ digit. digit - 48) digits)
 abbrev pub EndsWord : List ℕ → Type 0
 EndsWord behind = IsTrue (not (begins_with is_name_byte behind))
 
--- what may be the value of a character constant: at most 256 bytes, each from 32 to 126
+-- what may be the value of a token that is a character constant: at most 256 bytes, each from 32 to 126
 abbrev pub IsConstantText : List ℕ → Type 0
 IsConstantText bytes = IsTextValue bytes × IsTrue (list_all is_printable bytes)
 

@@ -7,7 +7,8 @@ use crate::phrase::Phrase;
 use crate::show_phrase::show;
 use plcs_base::ByteOut;
 
-/// The length of a phrase's canonical text in bytes, or 4294967295 where it is longer.
+/// The length in bytes of what is shown of a phrase, which is its canonical text, or 4294967295 where it is
+/// longer.
 pub fn shown_len(phrase: &Phrase) -> u32
     ensures { result ≡ min (length (Canon (plain_phrase phrase.now))) longest_shown }
 {

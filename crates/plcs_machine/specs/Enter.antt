@@ -20,7 +20,7 @@ abbrev pub begun_in : List PlainInstr → Variables → Option (Fetched Landing)
 begun_in [] variables = None
 begun_in (instr ∷ instrs) variables = option_and_then (begun_passing variables (begun_in instrs)) (passing_of instr)
 
--- the configuration of a new run that lands there: main's frame alone, and main stands in slot 0
+-- the configuration in which a run by code begins that lands there: main's frame alone, and main stands in slot 0
 abbrev pub new_run : Landing → PlainConfiguration
 new_run landing = record { frames = new_frame 0 landing.place landing.variables ∷ []; taken = 0; output = [] }
 

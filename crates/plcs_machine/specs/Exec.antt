@@ -13,11 +13,11 @@ use Rattle.plcs_machine.specs.Fetched.{Fetched, at_once, behind_one, with_result
 use Rattle.plcs_machine.specs.Lead.{Lead, address_of, lead}
 use Rattle.plcs_machine.specs.Passing.{Landing, Making, settle}
 
--- the answer of a step, with how many instructions it fetches
+-- the answer of one step of a run by code, with how many instructions it fetches
 abbrev pub FetchedAnswer : Type 0
 FetchedAnswer = Fetched PlainStepAnswer
 
--- the answer of a step that does the act and ends where it lands
+-- the answer of a step by code that does the act and ends where it lands
 abbrev pub acted : PlainConfiguration → Act → Landing → PlainStepAnswer
 acted c act landing = PlainStepAnswer.stepped (done act landing.place c)
 
@@ -25,7 +25,7 @@ acted c act landing = PlainStepAnswer.stepped (done act landing.place c)
 abbrev pub called : PlainConfiguration → (slot : ℕ) → Landing → PlainStepAnswer
 called c slot landing = acted c (Act.call (new_frame slot landing.place landing.variables)) landing
 
--- a frame that is made for a call with these arguments, before it has variables
+-- the frame that a step by code makes for a call with these arguments, before it has variables
 abbrev pub making_for : List Argument → Making
 making_for arguments = record { variables = []; arguments = arguments }
 

@@ -17,7 +17,7 @@ at_once result = record { result = result; fetches = 1 }
 abbrev pub behind_one : {A : Type 0} → Fetched A → Fetched A
 behind_one fetched = record { result = fetched.result; fetches = fetched.fetches + 1 }
 
--- what is made of a result
+-- what is made of the result to which instructions come, where as many of them were fetched
 abbrev pub with_result : {A B : Type 0} → (A → B) → Fetched A → Fetched B
 with_result make fetched = record { result = make fetched.result; fetches = fetched.fetches }
 

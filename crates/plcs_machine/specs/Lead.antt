@@ -39,16 +39,17 @@ pub data Lead : Type 0 where
 
 -- ---- addresses
 
--- the address of this number, if it isn't below 0
+-- the address of this number, to which an instruction of the table leads, if it isn't below 0
 abbrev pub address_at : ℤ → Option ℕ
 address_at (pos n) = Some n
 address_at (negsuc n) = None
 
--- the address to which an instruction jumps, behind which the next address is this: a jump's number goes from there
+-- the address to which an instruction of the table leads that jumps, where the next address behind it is this: a jump's
+-- number goes from there
 abbrev pub jump_target : (next : ℕ) → ℤ → Option ℕ
 jump_target next d = address_at (pos next +ℤ d)
 
--- the address of a place in the code, if it has one
+-- the address in the code of the place to which the instruction leads that leaves a procedure, if it has one
 abbrev pub address_of : PlainCode → PlainPlace → Option ℕ
 address_of code place = get code.addresses (place_of place)
 
@@ -133,7 +134,7 @@ put_lead next output skip n values =
 
 -- ---- loops
 
--- whether the newest frame may keep one more loop
+-- whether an instruction may have the newest frame keep one more loop
 abbrev pub has_loop_room : List Frame → Bool
 has_loop_room frames = option_map_or (λ frame. nat_lt (length frame.loops) most_loops) (slice_get frames (newest frames)) false
 

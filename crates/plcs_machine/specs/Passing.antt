@@ -56,30 +56,31 @@ passing_of PlainInstr.leave = None
 
 -- ---- the variables of a new frame
 
--- how many cells variables have together
+-- how many cells the variables of a new frame have together, as far as instructions made them
 abbrev pub cell_count : Variables → ℕ
 cell_count variables = sum_by (λ named. length named.1.cells) variables
 
--- variables with one more behind them, if none has its name yet and their cells aren't too many then
+-- the variables of a new frame once an instruction made the cells of one more behind them, if none has its name yet and
+-- their cells aren't too many then
 abbrev pub with_variable : (name : List ℕ) → Variable → Variables → Option Variables
 with_variable name variable variables =
     if is_none (variable_named name variables) && nat_le (cell_count variables + length variable.cells) most_cells
     then Some (variables ++ ((name, variable) ∷ [])) else None
 
--- variables with one more whose cells aren't set
+-- the variables of a new frame once an instruction made the cells of one more, none of which is set
 abbrev pub with_unset : (name : List ℕ) → ItemType → (size : ℕ) → Variables → Option Variables
 with_unset name ty size variables = with_variable name (new_variable ty size) variables
 
--- a frame that is made: its variables so far, and the arguments that no parameter took yet
+-- a frame while instructions make its cells: its variables so far, and the arguments that no parameter took yet
 pub record Making : Type 0 where
   pub variables : Variables
   pub arguments : List Argument
 
--- a frame that is made, with these variables in place of its own
+-- a frame that instructions make, with these variables in place of its own
 abbrev pub with_variables : Making → Variables → Making
 with_variables making variables = record making { variables = variables }
 
--- a frame that is made, with a parameter for the first of these arguments; the others are left
+-- a frame while instructions make its cells, with a parameter for the first of these arguments; the others are left
 abbrev pub with_parameter : List Frame → (name : List ℕ) → ItemType → Variables → List Argument → Option Making
 with_parameter frames name ty variables [] = None
 with_parameter frames name ty variables (argument ∷ arguments) =

@@ -7,7 +7,7 @@ use Rattle.plcs_store.specs.declared.frame.Frame.{Frame}
 use Rattle.plcs_store.specs.CellAt.{cell_at, element_of, newest, own_location, variable_at}
 use Rattle.plcs_store.specs.Outcome.{Outcome, if_there, then_gives}
 
--- whether a cell stands for another
+-- whether a cell on which an instruction is to work stands for another
 abbrev pub is_reference : Cell → Bool
 is_reference Cell.Unset = false
 is_reference (Cell.Held value) = false
@@ -18,13 +18,14 @@ abbrev pub may_follow : List Frame → Location → Bool
 may_follow frames location =
     nat_lt location.frame (newest frames) && option_map_or (λ cell. not (is_reference cell)) (cell_at frames location) false
 
--- for which location a cell of the newest frame stands: its own, or the one that it refers to, if that may be followed
+-- on which cell an instruction works by a cell of the newest frame: on that itself, or on the one that it refers to, if
+-- that may be followed
 abbrev pub followed : List Frame → (own : Location) → Cell → Option Location
 followed frames own Cell.Unset = Some own
 followed frames own (Cell.Held value) = Some own
 followed frames own (Cell.Ref location) = if may_follow frames location then Some location else None
 
--- for which location a cell of the newest frame stands, if there is the cell
+-- on which cell an instruction works by the cell at a location in the newest frame, if there is that cell
 abbrev pub followed_at : List Frame → (own : Location) → Option Location
 followed_at frames own = option_and_then (followed frames own) (cell_at frames own)
 

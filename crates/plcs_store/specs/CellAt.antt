@@ -19,7 +19,7 @@ use Rattle.plcs_store.specs.Outcome.{Outcome, faults, if_there, then_gives}
 abbrev pub newest : List Frame → ℕ
 newest frames = length frames - 1
 
--- the variables of a frame by their names
+-- the variables in which the cells of a frame are, each under its name
 abbrev pub Variables : Type 0
 Variables = List (List ℕ × Variable)
 
@@ -119,19 +119,19 @@ with_cell location cell frames =
 
 -- ---- new cells
 
--- the cells of a variable of this size, not set: one of a scalar, whose size is 0
+-- the cells of a variable of this size, in which nothing is stored yet: one of a scalar, whose size is 0
 abbrev pub unset_cells : (size : ℕ) → List Cell
 unset_cells size = replicate (cells_in size) Cell.Unset
 
--- a variable of the type and the size, whose cells aren't set
+-- a variable of the type and the size, in whose cells nothing is stored yet
 abbrev pub new_variable : ItemType → (size : ℕ) → Variable
 new_variable ty size = record { ty = ty; size = size; cells = unset_cells size }
 
--- a declared variable whose cells aren't set
+-- a declared variable, in whose cells nothing is stored yet
 abbrev pub unset_variable : Declared → Variable
 unset_variable item = new_variable item.ty item.size
 
--- a scalar variable of the type with this in its cell
+-- a scalar variable of the type, in whose one cell this is stored
 abbrev pub scalar_variable : ItemType → Cell → Variable
 scalar_variable ty cell = record { ty = ty; size = 0; cells = cell ∷ [] }
 

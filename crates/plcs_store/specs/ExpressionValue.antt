@@ -10,7 +10,7 @@ use Rattle.plcs_store.specs.CellAt.{located, value_at}
 use Rattle.plcs_store.specs.Operator.{infix_value, on_number, prefix_value}
 use Rattle.plcs_store.specs.Outcome.{Outcome, both_give, then_gives}
 
--- the name of a variable where it is used
+-- the name of a variable where it is used, by which what it comes to in an expression is found in the frames of a run
 abbrev pub name_of_reference : PlainVarRef → List ℕ
 name_of_reference (PlainVarRef.simple name) = name
 name_of_reference (PlainVarRef.subscripted name index) = name

@@ -62,7 +62,8 @@ pub record StandsAround (program : Forest) (waits : Bool) (frame : Frame) (kind 
 abbrev pub StandsAt : (program : Forest) → (waits : Bool) → Frame → Type 0
 StandsAt program waits frame = (kind : NodeKind) × (around : Around) × StandsAround program waits frame kind around
 
--- a frame that is the newest stands where a run begins that comes to its slot, or else at another point
+-- as in a configuration that fits the program, a frame that is the newest stands where a run begins that comes to its
+-- slot, or else at another point
 abbrev pub StandsAtStart : (program : Forest) → Frame → Type 0
 StandsAtStart program frame = frame.place.point.0 ≡ 0 → Start program frame.place.slot.0 ≡ Some (frame_place frame)
 
@@ -90,7 +91,7 @@ pub record FramesStand (program : Forest) (frames : List Frame) : Type 0 where
 abbrev pub declared_part : Declared → ItemType × ℕ
 declared_part item = (item.ty, item.size)
 
--- the type and the size of a variable
+-- what of a variable has to fit its declared item in the program: its type and its size
 abbrev pub variable_part : Variable → ItemType × ℕ
 variable_part variable = (variable.ty, variable.size)
 
@@ -106,8 +107,8 @@ CellsFit program frames = All (λ frame. AreVariables (Items program frame.proce
 
 -- ---- the loops of frames
 
--- the loops in which a place stands: those For statements that enclose it, outermost first, and the For itself at its next
--- iteration
+-- the loops that a frame of a configuration which fits keeps at a place: those For statements that enclose it,
+-- outermost first, and the For itself at its next iteration
 abbrev pub loops_at : NodeKind → Around → PlainPlace → List ℕ
 loops_at kind around place = loops_around around ++ (if place.point == 1 then loop_by_kind kind place.slot else [])
 

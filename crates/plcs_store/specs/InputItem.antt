@@ -31,9 +31,9 @@ blanks_before input = prefix_len is_input_blank input
 abbrev pub item_bytes_before : List ℕ → ℕ
 item_bytes_before input = prefix_len is_item_byte input
 
--- how many bytes a constant has behind its opening quote, with its closing quote: the first that isn't doubled; none where
--- there is no such quote. So many of them stand before these bytes, and a quote among them as the last one may be the
--- closing one, or the first of two
+-- how many bytes a constant in an item of the input has behind its opening quote, with its closing quote: the first
+-- that isn't doubled; none where there is no such quote. So many of them stand before these bytes, and a quote among
+-- them as the last one may be the closing one, or the first of two
 abbrev pub closed_at : (count : ℕ) → (behind_quote : Bool) → List ℕ → Option ℕ
 closed_at count false [] = None
 closed_at count true [] = Some count

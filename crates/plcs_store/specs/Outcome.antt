@@ -36,7 +36,7 @@ abbrev pub found_or_fault : {A : Type 0} → Result A FaultKind → Outcome A
 found_or_fault (Ok a) = gives a
 found_or_fault (Err kind) = faults kind
 
--- the outcome that an answer of the code is, which may also be undefined
+-- the outcome of a part of a step that an answer of the code is, which may also be undefined
 abbrev pub answer_outcome : {A : Type 0} → Result (Option A) FaultKind → Outcome A
 answer_outcome (Ok found) = if_there found
 answer_outcome (Err kind) = faults kind

@@ -26,8 +26,9 @@ template_held program slot = option_map (λ found. record { kind = found.label.k
 
 -- ---- what is kept
 
--- what is kept of the program for the frames of a configuration, from main upward: the phrases of the heading of each one's
--- procedure, the effective items there, and the kind and the parts of what stands in the slot of its place
+-- what is kept of the program, by which the suspended run may be resumed once that was edited, for the frames of a
+-- configuration from main upward: the phrases of the heading of each one's procedure, the effective items there, and
+-- the kind and the parts of what stands in the slot of its place
 pub record IsKeptOf (program : Forest) (c : PlainConfiguration) (kept : Kept) : Type 0 where
   pub headings : map (λ frame. heading_parts program frame.procedure.0) c.frames ≡ map Some kept.headings
   pub declared : map (λ frame. Items program frame.procedure.0) c.frames ≡ kept.declared
@@ -51,7 +52,7 @@ TemplateDiffers program frame kept =
 
 -- ---- the answer
 
--- a question, with the refusal where it holds, before more questions
+-- a question that is asked before a run may be resumed, with the refusal where it holds, before more questions
 abbrev pub Asks : (question : Type 0) → ResumeRefusal → (more : Option ResumeRefusal → Type 0) → Option ResumeRefusal → Type 0
 Asks question refusal more answer = (question × (answer ≡ Some refusal)) ⊎ ((¬ question) × more answer)
 
@@ -62,7 +63,8 @@ AsksFrame program frame heading items template more =
     (Asks (ItemsDiffer program frame items) (ResumeRefusal.DeclarationChanged frame.procedure)
     (Asks (TemplateDiffers program frame template) (ResumeRefusal.TemplateChanged frame.place.slot) more))
 
--- the answer for the frames from main upward, each with what is kept for it: the first refusal that holds, or none
+-- whether a suspended run may be resumed in the program, by its frames from main upward, each with what is kept for it:
+-- none is a yes, and else it is the first refusal that holds
 abbrev pub AsksFrames : (program : Forest) → List Frame → List Parts → List (List Declared) → List HeldTemplate → Option ResumeRefusal → Type 0
 AsksFrames program [] headings declared held answer = answer ≡ None
 AsksFrames program (frame ∷ frames) [] declared held answer = ⊥
@@ -75,19 +77,19 @@ AsksFrames program (frame ∷ frames) (heading ∷ headings) (items ∷ declared
 abbrev pub MayResume : Kept → PlainConfiguration → (program : Forest) → Option ResumeRefusal → Type 0
 MayResume kept c program answer = AsksFrames program c.frames kept.headings kept.declared kept.held answer
 
--- what was kept of the program allows the run to be resumed as long as the program isn't edited
+-- a suspended run may be resumed, by what was kept of the program, as long as that isn't edited
 abbrev pub UneditedResumes : Type 0
 UneditedResumes =
     (program : Forest) (c : PlainConfiguration) (kept : Kept) → IsKeptOf program c kept → MayResume kept c program None
 
 -- ---- where a resumed run goes on
 
--- the place where a run goes on that stands at the place: with point 0 where a run begins that comes to its slot, and
--- else there
+-- the place where a resumed run goes on that stands at the place: with point 0 where a run begins that comes to its
+-- slot, and else there
 abbrev pub resolved_place : (program : Forest) → PlainPlace → PlainPlace
 resolved_place program place = if place.point == 0 then unwrap_or (Start program place.slot) place else place
 
--- a frame at the place where a run goes on that stands at its place
+-- a frame at the place where a resumed run goes on that stands at its place
 abbrev pub resolved_frame : (program : Forest) → Frame → Frame
 resolved_frame program frame = frame_at (resolved_place program (frame_place frame)) frame
 

@@ -22,7 +22,8 @@ pub record Callee : Type 0 where
   pub parameters : List (List ℕ)
   pub items : List Declared
 
--- the place where a run begins in main or a procedure: its first statement, or inside that
+-- the place that follows a call of a procedure, or with which main begins: that of its first statement, or one inside
+-- that
 abbrev pub procedure_start : PlainNode → PlainPlace
 procedure_start node = begin node.inner (place_at node.label.slot 1)
 
@@ -163,7 +164,7 @@ get_spot found item =
     option_and_then (λ targets. option_map (λ target. Spot.reads target (behind_item found item)) (slice_get targets item))
     (said variables_in found.label.parts 0)
 
--- the nodes behind the first of some
+-- the nodes behind the first of some inside a node, where the place stands that follows a test which fails
 abbrev pub behind_first : Forest → Forest
 behind_first Forest.nil = Forest.nil
 behind_first (Forest.cons label inner rest) = rest

@@ -26,11 +26,11 @@ use Rattle.plcs_store.specs.Spot.{Callee, Spot, spot_at}
 
 -- ---- acts
 
--- an act, with the place where the run goes on
+-- what one step of a run gives: its act, with the place where the run goes on
 abbrev pub Going : Type 0
 Going = Act × PlainPlace
 
--- an act that goes on at this place
+-- what one step of a run gives whose act goes on at this place
 abbrev pub going_on : PlainPlace → Outcome Act → Outcome Going
 going_on next outcome = then_gives outcome (λ act. Outcome.gives (act, next))
 
@@ -46,7 +46,7 @@ assignment_act frames target expression =
     then_gives (located frames (name_of_reference target) subscript) (λ location.
     storing frames location value (Act.store location))))
 
--- a condition is tested
+-- one step of a run tests a condition, and goes on by its value
 abbrev pub test_going : List Frame → PlainExpr → (inside other : PlainPlace) → Outcome Going
 test_going frames condition inside other =
     then_gives (expression_value frames condition) (on_bit (λ b. Outcome.gives (Act.pass, if b then inside else other)))
@@ -57,7 +57,8 @@ test_going frames condition inside other =
 abbrev pub is_over : (limit step value : ℤ) → Bool
 is_over limit step value = if int_le (pos 0) step then int_lt limit value else int_lt value limit
 
--- a For is entered, or is over at once, where its variable has the first value; it is told where both go on
+-- one step of a run enters a For, or leaves it at once, where its variable has the first value; it is told where both
+-- go on
 abbrev pub entry_going : {A : Type 0} → List Frame → KeptLoop → Location → (first : ℤ) → (inside after : A) → Outcome (Act × A)
 entry_going frames kept location first inside after =
     storing frames location (Value.Fixed first) (λ value.
@@ -78,7 +79,7 @@ loop_going frames number kept location z inside after =
     storing frames location (Value.Fixed z) (λ value.
     if is_over kept.limit kept.step z then (Act.finish location value number, after) else (Act.store location value, inside))
 
--- a For takes its next iteration: the kept step is added to its variable
+-- in one step of a run a For takes its next iteration: its kept step is added to its variable
 abbrev pub iteration_going : List Frame → (slot : ℕ) → (name : List ℕ) → (inside after : PlainPlace) → Outcome Going
 iteration_going frames slot name inside after =
     then_gives (if_there (newest_loop slot frames)) (λ found.
@@ -89,7 +90,7 @@ iteration_going frames slot name inside after =
 
 -- ---- input and output
 
--- an item of the input, or why there is none
+-- what one step of a run gets as an item of the input, or the reason for which it stops where there is none
 abbrev pub item_outcome : Result (Value × ℕ) ItemFault → Outcome (Value × ℕ)
 item_outcome (Ok found) = Outcome.gives found
 item_outcome (Err ItemFault.Wanted) = Outcome.stops Reason.InputWanted
@@ -102,22 +103,22 @@ item_act frames rest location =
     then_gives (item_outcome (next_item variable.ty rest)) (λ found.
     storing frames location found.0 (λ value. Act.read location value found.1)))
 
--- an item of the input is read into a variable, whose subscript is tested first
+-- one step's act by which an item of the input is read into a variable, whose subscript is tested first
 abbrev pub read_act : List Frame → (rest : List ℕ) → PlainVarRef → Outcome Act
 read_act frames rest target = then_gives (reference_location frames target) (item_act frames rest)
 
--- the output becomes this, if it isn't too long
+-- one step's act by which the output becomes this, if it isn't too long
 abbrev pub output_act : (output : List ℕ) → Outcome Act
 output_act output = if nat_le (length output) most_output then Outcome.gives (Act.write output) else faults FaultKind.OutputLimit
 
--- values are written
+-- one step's act by which values are written
 abbrev pub write_act : List Frame → (output : List ℕ) → (skip : Bool) → PlainExprs → Outcome Act
 write_act frames output skip expressions =
     then_gives (expression_values frames expressions) (λ values. output_act (output_with skip output values))
 
 -- ---- calls
 
--- the frame that a call makes
+-- the frame that one step of a run makes where it calls a procedure
 abbrev pub called_frame : List Frame → Callee → List Argument → Option Frame
 called_frame frames callee arguments =
     option_map (λ parameters. new_frame callee.slot callee.start (parameters ++ other_variables callee.parameters callee.items))
@@ -133,11 +134,11 @@ enter_going frames callee arguments =
 abbrev pub call_going : List Frame → Callee → PlainExprs → Outcome Going
 call_going frames callee arguments = then_gives (argument_values frames arguments) (enter_going frames callee)
 
--- where the frame below the newest waits, if there is one
+-- for a step that leaves the newest frame: where the frame below it waits, if there is one
 abbrev pub caller_place : List Frame → Option PlainPlace
 caller_place frames = option_map frame_place (slice_get frames (newest frames - 1))
 
--- where a run goes on that waits at a spot
+-- where a step that leaves a procedure goes on, by the spot at which the caller waits
 abbrev pub waits_for : Spot → Option PlainPlace
 waits_for (Spot.waits next) = Some next
 waits_for (Spot.halts reason) = None
@@ -158,7 +159,7 @@ pub data PlainStepAnswer : Type 0 where
   stopped : Reason → PlainStepAnswer
   ended : PlainStepAnswer
 
--- the answer of a step that comes to this
+-- the answer of one step of a run from a configuration, where the step comes to this
 abbrev pub step_answer : PlainConfiguration → Outcome Going → Option PlainStepAnswer
 step_answer c (Outcome.gives going) = Some (PlainStepAnswer.stepped (done going.0 going.1 c))
 step_answer c (Outcome.stops reason) = Some (PlainStepAnswer.stopped reason)

@@ -43,7 +43,7 @@ step_undone (Undo.Left place frame) c = record c { frames = newest_at (plain_pla
 abbrev pub undo_of_cell : List Frame → Location → (Cell → Undo) → Undo
 undo_of_cell frames location make = option_map_or make (cell_at frames location) Undo.Empty
 
--- the newest frame, if there is one
+-- the newest frame, if there is one, by which the record is made that takes a step back
 abbrev pub newest_frame : List Frame → Option Frame
 newest_frame frames = slice_get frames (newest frames)
 
@@ -57,7 +57,7 @@ loop_at number frames = option_and_then (λ frame. slice_get frame.loops number)
 abbrev pub HasLoopsBefore : (number : ℕ) → List Frame → Type 0
 HasLoopsBefore number frames = (frame : Frame) → newest_frame frames ≡ Some frame → number ≤ length frame.loops
 
--- the frame below the newest, if there is one
+-- the frame below the newest, if there is one, whose place is kept in the record of a step that leaves the newest
 abbrev pub caller_of : List Frame → Option Frame
 caller_of frames = newest_frame (without_newest frames)
 
@@ -90,10 +90,11 @@ HasPartsFor (Act.write output) frame c = take (length c.output) output ≡ c.out
 HasPartsFor (Act.call called) frame c = Unit {0}
 HasPartsFor Act.leave frame c = IsSome (caller_of c.frames)
 
--- the configuration allows the act: it has a newest frame, and what the act changes
+-- the configuration allows the act, so that a record of it can take it back: it has a newest frame, and what the act
+-- changes
 abbrev pub Allows : Act → PlainConfiguration → Type 0
 Allows act c = (frame : Frame) × (newest_frame c.frames ≡ Some frame) × HasPartsFor act frame c
 
--- a step is taken back by its record, wherever it goes on
+-- its record takes a step back, wherever the step goes on
 abbrev pub StepsTakenBack : Type 0
 StepsTakenBack = (act : Act) (next : PlainPlace) (c : PlainConfiguration) → Allows act c → step_undone (undo_of act c) (done act next c) ≡ c

@@ -44,7 +44,8 @@ impl Frames {
         }
     }
 
-    /// The number of the newest frame, counted from 0 at main's; 0 also where there is none.
+    /// The number of the newest frame, in which the cells of variables are looked for, counted from 0 at
+    /// main's; 0 also where there is none.
     fn newest_number(&self) -> usize
         ensures number { result ≡ newest self.now }
         ensures few { result < most_frames }

@@ -49,8 +49,8 @@ impl Cells {
         self.get(name).is_some()
     }
 
-    /// Puts this into a cell of a variable, counted from 0; where there is no variable of the name, nowhere.
-    /// It takes no memory.
+    /// Puts this into a cell, counted from 0, of the frame's variable of the name; where there is no variable
+    /// of the name, nowhere. It takes no memory.
     pub fn set(&mut self, name: &Name, element: usize, cell: Cell)
         requires there { HasElement name.now element self.old }
         ensures { self.new ≡ with_element_named name.now element cell self.old }
@@ -60,8 +60,8 @@ impl Cells {
         }
     }
 
-    /// Puts this into a cell of a variable, counted from 0, and gives what was in it; where there is no such
-    /// cell, nowhere. It takes no memory.
+    /// Puts this into a cell, counted from 0, of the frame's variable of the name, and gives what was in it;
+    /// where there is no such cell, nowhere. It takes no memory.
     pub fn replace(&mut self, name: &Name, element: usize, cell: Cell) -> Option<Cell>
         ensures before { result ≡ element_named name.now element self.old }
         ensures set { self.new ≡ with_element_named name.now element cell self.old }

@@ -138,8 +138,8 @@ impl Frames {
         }
     }
 
-    /// Puts this into the cell at a location; where the frame has no variable of the name, nowhere. It takes no
-    /// memory.
+    /// Puts this into the cell at a location among the frames of a run; where the frame has no variable of the
+    /// name, nowhere. It takes no memory.
     pub fn set_cell(&mut self, location: &Location, cell: Cell)
         requires frame { location.now.frame < length self.old }
         requires there { HasCell location.now self.old }

@@ -287,8 +287,8 @@ fn all_printable(bytes: &[u8]) -> bool
     bytes.iter().all(|byte| is_printable(*byte))
 }
 
-/// The text of the constant whose bytes behind the opening quote these are, or `None` where it is too long
-/// or has a byte that may not stand in a constant.
+/// The text of an item of the input that is a constant, of which these are the bytes behind the opening quote,
+/// or `None` where it is too long or has a byte that may not stand in a constant.
 fn unquoted_text(rest: &[u8]) -> Option<Value>
     ensures { result ≡ readable_text (unquoted false rest.now) }
 {

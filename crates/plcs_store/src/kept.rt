@@ -63,7 +63,7 @@ impl Model for DeclaredList {
 }
 
 impl DeclaredList {
-    /// These in order. It takes no memory.
+    /// These items in order, as they are kept for an edited program. It takes no memory.
     pub fn from_vec(items: Vec<Declared>) -> DeclaredList
         ensures { result ≡ items.items }
     {
@@ -77,7 +77,7 @@ impl DeclaredList {
         self.items
     }
 
-    /// Them in order.
+    /// The kept items in order.
     pub fn as_slice(&self) -> &[Declared]
         ensures { result.now ≡ self.now }
     {
@@ -101,7 +101,7 @@ impl Model for DeclaredLists {
 }
 
 impl DeclaredLists {
-    /// These in order. It takes no memory.
+    /// These lists of items in order, as they are kept for an edited program. It takes no memory.
     pub fn from_vec(lists: Vec<DeclaredList>) -> DeclaredLists
         ensures { result ≡ lists.items }
     {
@@ -115,7 +115,7 @@ impl DeclaredLists {
         self.lists
     }
 
-    /// Them in order.
+    /// The kept lists of items in order.
     pub fn as_slice(&self) -> &[DeclaredList]
         ensures { result.now ≡ self.now }
     {
@@ -123,7 +123,8 @@ impl DeclaredLists {
     }
 }
 
-/// What stood in the slot of each frame's place, which contracts see as a list.
+/// What stood in the slot of each frame's place, as it is kept of a program that is edited; contracts see it as
+/// a list.
 #[derive(Drop)]
 pub struct HeldTemplates {
     templates: Vec<HeldTemplate>,
@@ -142,7 +143,7 @@ impl Model for HeldTemplates {
 }
 
 impl HeldTemplates {
-    /// These in order. It takes no memory.
+    /// These templates in order, as they are kept for an edited program. It takes no memory.
     pub fn from_vec(templates: Vec<HeldTemplate>) -> HeldTemplates
         ensures { result ≡ templates.items }
     {
@@ -156,7 +157,7 @@ impl HeldTemplates {
         self.templates
     }
 
-    /// Them in order.
+    /// The kept templates in order.
     pub fn as_slice(&self) -> &[HeldTemplate]
         ensures { result.now ≡ self.now }
     {

@@ -86,8 +86,8 @@ impl OperandValues {
     }
 }
 
-/// The arguments of a call that were evaluated, the first one first, which contracts see as a list. There is
-/// always room for 400.
+/// The evaluated arguments of a call on which a step works, the first one first, which contracts see as a list.
+/// There is always room for 400.
 #[derive(Drop)]
 pub struct Arguments {
     arguments: Vec<Argument>,
@@ -106,7 +106,7 @@ impl Model for Arguments {
 }
 
 impl Arguments {
-    /// No evaluated arguments, with room for 400.
+    /// No arguments evaluated in a step, with room for 400.
     pub fn new(alloc: Global) -> Result<Arguments, OutOfMemory>
         ensures { IfOk result (λ arguments. arguments ≡ []) }
     {
@@ -122,7 +122,7 @@ impl Arguments {
         self.arguments.len()
     }
 
-    /// Puts one more evaluated argument behind the others. It takes no memory.
+    /// Puts one more evaluated argument behind the others that a step works on. It takes no memory.
     pub fn push(&mut self, argument: Argument)
         requires room { length self.old < most_operands }
         ensures { self.new ≡ self.old ++ argument ∷ [] }
@@ -140,14 +140,15 @@ impl Arguments {
         self.arguments.pop()
     }
 
-    /// The evaluated argument of this number, counted from 0 at the first, or `None` where there is none.
+    /// The argument of this number among the evaluated ones that a step works on, counted from 0 at the first,
+    /// or `None` where there is none.
     pub fn get(&self, number: usize) -> Option<&Argument>
         ensures { option_map (λ argument. argument.now) result ≡ slice_get self.now number }
     {
         self.arguments.get(number)
     }
 
-    /// Takes all evaluated arguments off.
+    /// Takes all evaluated arguments off that a step works on.
     pub fn clear(&mut self)
         ensures { self.new ≡ [] }
     {

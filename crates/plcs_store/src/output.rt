@@ -1,4 +1,4 @@
-//! The output of a run.
+//! The output of a run: the bytes that were written, and how values come behind them.
 ghost use Rattle.std.specs.Prelude.{◌≡◌, ◌≤◌, ◌+◌, ◌<◌, ◌↔◌, ◌++◌, [], length, take, true, vec_capacity, IfOk, IsOk, OnErr, OnOk};
 ghost use Rattle.plcs_store.specs.Limit.{most_output};
 ghost use Rattle.plcs_store.specs.OutputItem.{at_line_start, output_with, value_bytes, with_item_written, with_items_written, with_line_ended};
@@ -74,7 +74,8 @@ impl Output {
         }
     }
 
-    /// Writes the values to the output, on a new line or not; where not all fit, as many as do.
+    /// Puts the values behind the bytes of the output that were written, on a new line or not; where not all
+    /// fit, as many as do.
     fn write_some(&mut self, skip: bool, items: &[Value]) -> Result<(), OutputFull>
         ensures fits { IsOk result ↔ (length (output_with skip self.old items.now) ≤ most_output) }
         ensures written { OnOk result (self.new ≡ output_with skip self.old items.now) }
@@ -87,8 +88,8 @@ impl Output {
         }
     }
 
-    /// Ends the line of the output, unless nothing was written yet, and writes the values; where not all fit, as many
-    /// as do.
+    /// Ends the line of the output, unless nothing was written yet, and has the values come behind the bytes
+    /// that were written; where not all fit, as many as do.
     fn write_on_new_line(&mut self, items: &[Value]) -> Result<(), OutputFull>
         ensures fits { IsOk result ↔ (length (output_with true self.old items.now) ≤ most_output) }
         ensures written { OnOk result (self.new ≡ output_with true self.old items.now) }
@@ -110,7 +111,7 @@ impl Output {
         self.put(b"\n")
     }
 
-    /// Writes the values to the output; where not all fit, as many as do.
+    /// Writes the values behind the bytes of the output; where not all fit, as many as do.
     fn write_all(&mut self, items: &[Value]) -> Result<(), OutputFull>
         ensures fits { IsOk result ↔ (length (with_items_written self.old items.now) ≤ most_output) }
         ensures written { OnOk result (self.new ≡ with_items_written self.old items.now) }

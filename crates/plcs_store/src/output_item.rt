@@ -1,4 +1,4 @@
-//! Writing values to the output of a run.
+//! Values written to the output, in the state of a run.
 ghost use Rattle.std.specs.Prelude.{◌≡◌, ◌≤◌, ◌↔◌, length, IsOk, OnOk, OnErr};
 ghost use Rattle.plcs_store.specs.Limit.{most_output};
 ghost use Rattle.plcs_store.specs.OutputItem.{output_with};

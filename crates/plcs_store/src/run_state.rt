@@ -18,7 +18,7 @@ pub struct RunState {
     pub operands: Operands,
 }
 
-/// A run that stands still.
+/// A run that stands still: what it is in, why it stands still, and what is kept of its program.
 #[derive(Drop)]
 pub struct Run {
     /// What the run is in.

@@ -1,4 +1,5 @@
-//! The laws of steps and of resumption, each a function that does nothing and whose contract states it.
+//! The laws of steps and their records, and of runs whose program isn't edited, each a function that does
+//! nothing and whose contract states it.
 ghost use Rattle.plcs_store.specs.NewFrame.{ItemsKeepLimits};
 ghost use Rattle.plcs_store.specs.OutputItem.{WrittenStands};
 ghost use Rattle.plcs_store.specs.Resume.{UneditedResumes};
@@ -65,7 +66,8 @@ pub fn steps_do_allowed_acts()
     slots_stand();
 }
 
-/// A run may be resumed where the program is as it was when that which was kept was taken from it.
+/// Where its program isn't edited a run may be resumed: the program is as it was when that which was kept was
+/// taken from it.
 pub fn unedited_may_resume()
     ensures { UneditedResumes }
 {}

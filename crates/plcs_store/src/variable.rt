@@ -44,8 +44,8 @@ impl Variable {
         })
     }
 
-    /// Which of the cells is meant, counted from 0: without a subscript the first, and else by the subscript,
-    /// from 1 to the size.
+    /// Which cell of the frame's variable is meant, counted from 0: without a subscript the first, and else by
+    /// the subscript, from 1 to the size.
     pub fn element(&self, subscript: Option<i32>) -> Result<u32, FaultKind>
         ensures { found_or_fault result ≡ element_of self.now subscript }
     {

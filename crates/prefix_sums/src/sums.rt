@@ -73,8 +73,8 @@ impl PrefixSums {
 }
 
 impl PrefixSums {
-    /// In which number of the list the count runs out, where each number takes its share of it in turn, or `None` where
-    /// all of them together are no more than the count.
+    /// Finds, fast by the running sums, in which number of the list the count runs out, where each number takes
+    /// its share of it in turn, or `None` where all of them together are no more than the count.
     pub fn find(&self, at: u32) -> Option<Position>
         ensures { IsFound self.now.numbers at result }
     {
@@ -93,7 +93,7 @@ impl PrefixSums {
         None
     }
 
-    /// How many of the marks, the running sums beside the list, aren't above the count.
+    /// How many of the marks, the running sums of every 64th number beside the list, aren't above the count.
     fn block_of(&self, at: u32) -> usize
         ensures whole { 64 * result ≤ length self.now.numbers }
         ensures before { sum (take (64 * result) self.now.numbers) ≤ at }

@@ -97,7 +97,7 @@ fn play_words(alloc: Global, held: &mut Held, words: &[Vec<u8>], told: &mut Told
     play(alloc, held, meaning(&CASES, name.as_slice())?, words, told)
 }
 
-/// Plays the case on a program with these words behind its name, if it takes them.
+/// Plays one case of the script with these words behind its name, if it takes them.
 fn play(
     alloc: Global,
     held: &mut Held,

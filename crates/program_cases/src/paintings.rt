@@ -93,7 +93,8 @@ fn drawn(alloc: Global, tree: &Tree, size: (u16, u16), numbers: &mut Numbers) ->
     Some(grid)
 }
 
-/// Paints the one grid over the other, and tells whether the terminal has the cells and the cursor of it then.
+/// Paints one random view over the other, and tells whether the terminal has the cells and the cursor of it
+/// then.
 fn is_shown(alloc: Global, old: &Grid, new: &Grid, terminal: &mut Terminal) -> bool
     requires rows { old.now.rows ≡ new.now.rows }
     requires cols { old.now.cols ≡ new.now.cols }

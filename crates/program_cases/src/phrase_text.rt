@@ -8,7 +8,7 @@ use plcs_grammar::{Category, Phrase, shown_len};
 use std::alloc::Global;
 use template_tree::LONGEST_PHRASE;
 
-/// What the text reads as, where it may stand in a part.
+/// The phrase of the category whose text a case on a program gives, where it may stand in a part.
 pub fn phrase_of(alloc: Global, category: Category, text: &[u8]) -> Option<Phrase>
     ensures { IfSome result (λ phrase. IsPhrasePlace (Some (plain_phrase phrase))) }
 {

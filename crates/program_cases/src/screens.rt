@@ -32,7 +32,7 @@ impl Screens {
         Screens::blank(alloc, FEWEST_ROWS, FEWEST_COLS)
     }
 
-    /// Two blank grids of this size.
+    /// Two blank grids of this size, on which views are drawn later.
     fn blank(alloc: Global, rows: u16, cols: u16) -> Result<Screens, AllocError>
         requires least_rows { FEWEST_ROWS ≤ rows }
         requires most_rows { rows ≤ MOST_ROWS }
@@ -101,7 +101,7 @@ pub fn draw_marked(
     draw(alloc, tree, &marks, code, view, grid)
 }
 
-/// Draws a view on a grid under these marks; code is shown where there are rows of it.
+/// Draws the view of a case on a grid under these marks; code is shown where there are rows of it.
 fn draw<M: Marked>(
     alloc: Global,
     tree: &Tree,

@@ -32,6 +32,6 @@ abbrev pub IsFrameAnswer : (program : Forest) → Frame → Parts → List Decla
 IsFrameAnswer program frame heading items template answer =
     AsksFrame program frame heading items template (λ other. other ≡ None) answer
 
--- the kind and the parts of a node of the label, as they are kept
+-- what has to be kept of a node of the label for the question whether a run may be resumed: its kind and its parts
 abbrev pub held_of_label : Label → HeldTemplate
 held_of_label label = record { kind = label.kind; parts = label.parts }

@@ -31,7 +31,8 @@ EditedRunsFit =
     → Fits earlier.items c → IsKeptOf earlier.items c kept → MayResume kept c later.items None
     → Fits later.items (resolved later.items c)
 
--- where nothing was edited the newest place is resolved already: what fits a program goes on where it stands
+-- the law of resumption where nothing was edited: the newest place is resolved already, and what fits a program goes on
+-- where it stands
 abbrev pub FittingRunsResolved : Type 0
 FittingRunsResolved = (program : Forest) (c : PlainConfiguration) → Fits program c → resolved program c ≡ c
 
@@ -44,8 +45,8 @@ KeptHasEntries =
 
 -- ---- what the answer depends on
 
--- two programs have the same for each frame of a configuration: the phrases of its heading, its effective items, and the kind
--- and the parts of what stands in the slot of its place
+-- as a law of resumption asks, two programs have the same for each frame of a configuration: the phrases of its
+-- heading, its effective items, and the kind and the parts of what stands in the slot of its place
 pub record HasSameForFrames (one other : Forest) (c : PlainConfiguration) : Type 0 where
   pub headings :
       map (λ frame. heading_parts one frame.procedure.0) c.frames ≡ map (λ frame. heading_parts other frame.procedure.0) c.frames

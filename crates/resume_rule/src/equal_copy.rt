@@ -37,7 +37,8 @@ pub(crate) fn has_parts(node: &Node, kept: &CopiedParts) -> bool
     is_last_part(kept, part)
 }
 
-/// The copied part of this number, counted from 0, or `None` where there is no such part.
+/// What is kept of the part of this number, counted from 0, to be compared with the part as it is now, or
+/// `None` where there is no such part.
 fn copied_part(kept: &CopiedParts, part: u8) -> Option<&PhrasePlace>
     ensures { option_map (λ place. plain_phrase_place place.now) result ≡ slice_get kept.now part }
 {
@@ -99,7 +100,8 @@ fn item_of(decls: &Decls, procedure: Slot, k: u32) -> Option<Declared>
     decls.declared(procedure, k)
 }
 
-/// The kept item of this number, counted from 0, or `None` where there is no such item.
+/// The kept item of this number, counted from 0, which is compared with what there is now, or `None` where
+/// there is no such item.
 fn kept_item(kept: &DeclaredList, k: u32) -> Option<&Declared>
     ensures { option_map (λ item. item.now) result ≡ slice_get kept.now k }
 {
@@ -116,7 +118,7 @@ fn is_last_item(kept: &DeclaredList, k: u32) -> bool
     }
 }
 
-/// Whether an item is the kept one of this number.
+/// Whether an item that there is now is as the kept one of this number.
 fn is_kept(item: &Declared, kept: &DeclaredList, k: u32) -> bool
     ensures { IsTrue result ↔ (slice_get kept.now k ≡ Some item.now) }
 {

@@ -1,4 +1,5 @@
-//! The laws of resumption, each a function that does nothing and whose contract states it.
+//! The laws of resumption, in programs that were edited too, each a function that does nothing and whose
+//! contract states it.
 ghost use Rattle.resume_rule.specs.ResumeLaws.{AnswersFollowFrames, ChangedBackResumes, EditedRunsFit, FittingRunsResolved, KeptHasEntries, ResumedRunsFit};
 
 use plcs_store::unedited_may_resume;
@@ -17,7 +18,7 @@ pub fn resumed_runs_fit()
     agreement_lasts();
 }
 
-/// A run that fits a program goes on there where it stands.
+/// A run that fits a program is resumed there where it stands.
 pub fn fitting_runs_are_resolved()
     ensures { FittingRunsResolved }
 {}

@@ -7,7 +7,7 @@ use plcs_base::Slot;
 use std::alloc::{AllocError, Global};
 use template_tree::{Path, Tree};
 
-/// Reads the lines of text as the program, which takes the place of the one before.
+/// Reads the lines of text as the program whose code is asked, in place of the one before.
 pub(crate) fn read(tree: &mut Tree, text: &[Vec<u8>], told: &mut Told) -> Option<()>
     requires { IsTree tree.old }
     ensures { IsTree tree.new }
@@ -42,7 +42,8 @@ fn take_listing(tree: &mut Tree, listing: &[u8], told: &mut Told)
     }
 }
 
-/// Hides the refinement of the comment in the slot of the program, or shows it again, and tells which.
+/// Hides the refinement of the comment in the slot of the program whose code is asked, or shows it again, and
+/// tells which.
 pub(crate) fn elide(tree: &mut Tree, slot: &[u8], told: &mut Told) -> Option<()>
     requires { IsTree tree.old }
     ensures { IsTree tree.new }

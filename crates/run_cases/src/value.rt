@@ -23,7 +23,7 @@ pub(crate) fn value_of(word: &[u8]) -> Option<Value> {
     }
 }
 
-/// The value of a whole number, if it is in range.
+/// The value that a word spells which is this whole number, if that is in range.
 fn fixed(number: i64) -> Option<Value> {
     Some(Value::Fixed(i32::try_from(number).ok()?))
 }

@@ -50,8 +50,8 @@ stop_offset node (Some part) = bytes_before part (stretches_of 0 (row_of node.la
 abbrev pub stop_col : List ℕ → Option ℕ → PlainNode → ℕ
 stop_col path part node = 3 + 2 * (length path - 1) + stop_offset node part
 
--- whether the program's line in a row of the window, if there is one, is that of the cursor's stop: the first of the
--- node in the slot
+-- whether the cursor may stand in a row of the window: the program's line there, if there is one, is that of its stop,
+-- the first of the node in the slot
 abbrev pub begins_node : ℕ → Option PlainLine → Bool
 begins_node slot None = false
 begins_node slot (Some laid) = is_line record { slot = slot; kind = First } laid

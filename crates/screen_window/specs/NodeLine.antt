@@ -10,7 +10,7 @@ use Rattle.unparse_layout.specs.declared.line.LineKind.TheVariants.{First, Lead,
 use Rattle.unparse_layout.specs.LaidLine.{PlainLine}
 use Rattle.screen_window.specs.declared.node_line.NodeLine.{NodeLine}
 
--- whether two kinds of a node's lines are the same
+-- whether two lines of the screen are told by the same one of the kinds of a node's lines
 abbrev pub same_line_kind : LineKind → LineKind → Bool
 same_line_kind First First = true
 same_line_kind First Lead = false
@@ -57,7 +57,7 @@ abbrev pub line_inside : Label → Option NodeLine → Option NodeLine
 line_inside label None = None
 line_inside label (Some line) = Some (if label.elided then record { slot = label.slot; kind = Elision } else line)
 
--- the line that was found for a place of a run, or where none was the other one
+-- the line of the screen, told by its node, that was found for a place of a run, or where none was the other one
 abbrev pub found_line : Option NodeLine → Option NodeLine → Option NodeLine
 found_line None other = other
 found_line (Some line) other = Some line

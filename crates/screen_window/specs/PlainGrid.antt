@@ -25,7 +25,7 @@ pub record AreLines (rows cols : ℕ) (lines : List (List ℕ)) : Type 0 where
   pub count : length lines ≡ rows
   pub width : All (λ line. length line ≡ cols) lines
 
--- a row of a grid: as many cells as columns, the last of them blank
+-- a row of a grid as plain data: as many cells as columns, the last of them blank
 pub record IsRow (cols : ℕ) (line : List ℕ) : Type 0 where
   pub width : length line ≡ cols
   pub cells : All (λ cell. IsTrue (is_screen_cell cell)) line

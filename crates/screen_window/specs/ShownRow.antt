@@ -15,6 +15,6 @@ cell_in cols cells col = if nat_lt (col + 1) cols then shown_cell (slice_index_o
 unfoldable pub shown_row : ℕ → List ℕ → List ℕ
 shown_row cols cells = map (cell_in cols cells) (range_with_len 0 cols)
 
--- the margin of a line in its row: `>` where the run stands, and a blank
+-- what is shown first in a row of a grid, the margin of its line: `>` where the run stands, and a blank
 abbrev pub margin : Bool → List ℕ
 margin runs = (if runs then 62 else blank) ∷ blank ∷ []

@@ -172,8 +172,8 @@ fn cursor_position<W: Work, M: Marked>(
     }
 }
 
-/// The column of the cursor of a view with a typed line: behind the prompt and the line's end, or the
-/// last but one where it lies beyond.
+/// The column of the cursor on the grid on which a view with a typed line is drawn: behind the prompt and the
+/// line's end, or the last but one where it lies beyond.
 fn typed_col(cols: u16, prompt: &[u8], typed: &[u8]) -> u16
     requires least { FEWEST_COLS ≤ cols }
     requires most { cols ≤ MOST_COLS }
@@ -217,7 +217,7 @@ fn draw_row<W: Work, M: Marked>(
     }
 }
 
-/// What is drawn of a view in a row below the window: the dashes, or one of the lower rows.
+/// What is drawn on a grid of a view in a row below the window: the dashes, or one of the lower rows.
 #[tactic(auto, unfolding(crate::specs::Screen::screen_row))]
 fn lower_text<'a, W: Work, M: Marked>(
     view: &View<'a, W, M>,

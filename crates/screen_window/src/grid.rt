@@ -105,7 +105,7 @@ impl Grid {
 }
 
 impl Grid {
-    /// Shows on the grid what is written in a row, which counts from 0.
+    /// Sets a row of the grid, which counts from 0, so that a screen shows what is written in it.
     pub(crate) fn show(&mut self, row: u16, text: RowText<'_>)
         requires { row < self.old.rows }
         ensures { self.new ≡ with_row self.old row (shown_row self.old.cols (text_cells self.old.cols text.entry)) }

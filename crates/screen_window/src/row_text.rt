@@ -45,7 +45,7 @@ pub fn show_row(line: &mut Vec<u16>, text: RowText<'_>)
     }
 }
 
-/// The margin of a line or an instruction in its row, which says whether the run stands there.
+/// What is written in the margin of a row before a line or an instruction: whether the run stands there.
 fn margin(runs: bool) -> &'static [u8]
     ensures { result.now ≡ margin runs }
 {
@@ -121,7 +121,8 @@ fn shown_in(cols: usize, col: usize, cell: u16) -> u16
     }
 }
 
-/// What a row shows for a number: the cell that it is, or a blank in place of what is none.
+/// How a number that is written in a row is shown there: as the cell that it is, or as a blank where it is
+/// none.
 fn shown_cell(cell: u16) -> u16
     ensures { result ≡ shown_cell cell }
 {

@@ -114,8 +114,8 @@ fn show(session: &mut Session<Counts>, refusal: Refusal)
     session.show_message(refusal);
 }
 
-/// Asks a session for the rescue of its program after the keys, where the calls of the files of these numbers fail.
-/// Tells the save, and what the file of rescued programs holds.
+/// Asks a session over a new program to rescue it after the keys, where the calls of the files of these numbers
+/// fail. Tells the save, and what the file of rescued programs holds.
 fn rescue(alloc: Global, sitting: &mut Sitting, scene: &mut Scene, fails: &[Vec<u8>]) -> Option<()>
     requires { IsSession sitting.old.session }
 {

@@ -32,7 +32,7 @@ pub fn file(scene: &mut Scene, name: &[u8], content: &[u8]) -> Option<()> {
     Some(())
 }
 
-/// Puts a file of these bytes.
+/// Puts a file of these bytes among those that a run finds.
 fn put_file(files: &mut MemFiles, name: &[u8], bytes: &[u8]) -> Result<(), FilesFault> {
     files.begin(name)?;
     if !bytes.is_empty() {
@@ -68,7 +68,8 @@ pub fn told(alloc: Global, scene: &mut Scene, keys: &[u8]) -> Option<()> {
 /// Where the row of messages, which a case of files tells, begins on a screen of 12 rows.
 const MESSAGE_ROW: &[u8] = b"\x1b[11;1H";
 
-/// Tells the messages that were shown in turn by what was written, each on a line.
+/// Tells what a session with files says of them: the messages that were shown in turn by what was written, each
+/// on a line.
 fn tell_messages(written: &[u8], told: &mut Told) {
     for at in 0..written.len() {
         if let Some(behind) = written[at..].strip_prefix(MESSAGE_ROW) {

@@ -68,7 +68,7 @@ pub fn terminal_of(alloc: Global, size: (u16, u16), bytes: &[u8]) -> Option<Term
     Some(terminal)
 }
 
-/// Tells the cursor's place on a terminal, and its rows, a row a line.
+/// Tells what a terminal shows of a run: the cursor's place, and the rows, a row a line.
 fn tell_terminal(terminal: &Terminal, rows: u16, told: &mut Told)
     requires { terminal.now.rows ≡ rows }
 {
@@ -100,7 +100,8 @@ fn tell_row(cells: &[u16], told: &mut Told) {
     told.put(b'\n');
 }
 
-/// The cells of a terminal's row up to the last one that isn't a blank in default image.
+/// The cells that a case of screens tells of a terminal's row: those up to the last one that isn't a blank in
+/// default image.
 fn shown_cells(cells: &[u16]) -> &[u16] {
     let mut end = 0;
     for (col, cell) in cells.iter().enumerate() {

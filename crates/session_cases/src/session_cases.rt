@@ -16,7 +16,8 @@ pub fn from(alloc: Global, scene: &mut Scene, keys: &[u8]) -> Option<()> {
     on(alloc, scene, keys)
 }
 
-/// `on KEYS`: the same after the keys at hand and then these.
+/// `on KEYS`: the answer to the last key pressed in a session, and its live slots, after the keys at hand and
+/// then these.
 pub fn on(alloc: Global, scene: &mut Scene, keys: &[u8]) -> Option<()> {
     scene.keys.extend_from_slice(keys).ok()?;
     ask(alloc, scene, Asked::Answer, &[])
@@ -57,7 +58,8 @@ static REFUSALS: [(&[u8], Refusal); 22] = [
     (b"NotBuilt", Refusal::NotBuilt),
 ];
 
-/// `tell REFUSAL`: what painting writes once this refusal is shown after the keys at hand.
+/// `tell REFUSAL`: what painting writes once a session, in which the keys at hand were pressed, shows this
+/// refusal.
 pub fn tell(alloc: Global, scene: &mut Scene, word: &[u8]) -> Option<()> {
     ask(alloc, scene, Asked::Message(meaning(&REFUSALS, word)?), &[])
 }

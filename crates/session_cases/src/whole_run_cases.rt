@@ -94,7 +94,7 @@ fn failing_of(kind: &[u8], number: &[u8]) -> Option<Failing> {
     }
 }
 
-/// Tells how many pieces of the whole the part is, if it is its first pieces.
+/// Tells how many pieces of what a whole run writes the part is, if it is the first of them.
 fn tell_behind(whole: &[u8], part: &[u8], told: &mut Told) {
     match first_pieces(whole, part) {
         Some(count) => {
@@ -128,7 +128,7 @@ pub fn bytes(alloc: Global, scene: &mut Scene, before: &[u8], last: &[u8]) -> Op
     Some(())
 }
 
-/// Runs the editor on the one keys and then the others.
+/// Plays for a case the whole run of the editor over the one keys and then the others.
 fn play_behind(alloc: Global, before: &[u8], last: &[u8]) -> Option<Played> {
     let keys = [before, last].concat(alloc).ok()?;
     play_on(alloc, b"12", b"40", keys.as_slice())

@@ -27,7 +27,8 @@ pub data Edited : Type 0 where
   became : (tree : PlainTree) (stop : PlainStop) (taken : Option PlainNode) (what : What) (slot : ℕ) → Edited
   refused : TreeFault → Edited
 
--- the first limit that the tree after an edit is over, if it is over one
+-- why an edit at a stop is refused where this would be the tree after it: the first limit that it is over, if there is
+-- one
 abbrev pub limit_reached : PlainTree → Option TreeFault
 limit_reached tree =
     if nat_lt deepest_path (depth tree.items)
@@ -68,7 +69,8 @@ abbrev pub phrase_entry : Option ℕ → PlainPhrase → TreeEdit
 phrase_entry None phrase = TreeEdit.put (assignment_node phrase)
 phrase_entry (Some part) phrase = TreeEdit.set_part part (Some phrase)
 
--- what comes of phrase text: it comes where its category is wanted, and the cursor goes onward
+-- what comes of an edit that enters phrase text at a stop: it comes where its category is wanted, and the cursor goes
+-- onward
 abbrev pub outcome_of_phrase_entry : PlainTree → PlainStop → PlainPhrase → PlainNode → Edited
 outcome_of_phrase_entry tree stop phrase node =
     if is_wanted phrase (category_in stop.part node.label.kind) then comes_onward (phrase_entry stop.part phrase) tree node.label.slot stop else not_here
@@ -91,7 +93,8 @@ abbrev pub outcome_of_node_taking : PlainTree → PlainStop → Option NodeKind 
 outcome_of_node_taking tree stop None node = not_here
 outcome_of_node_taking tree stop (Some hole) node = comes (TreeEdit.put (lone 0 hole)) tree node.label.slot stop (Some node)
 
--- what comes of taking out what stands at the cursor: a node other than main and no hole, or a phrase; the cursor stays
+-- what the edit at a stop does that takes out what stands there: a node other than main and no hole, or a phrase; the
+-- cursor stays
 abbrev pub outcome_of_taking : PlainTree → PlainStop → Option ℕ → PlainNode → Edited
 outcome_of_taking tree stop None node = outcome_of_node_taking tree stop (hole_left node.label.kind) node
 outcome_of_taking tree stop (Some part) node =

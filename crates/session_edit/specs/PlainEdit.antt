@@ -27,7 +27,7 @@ plain_edit Edit.Delete = PlainEdit.delete
 plain_edit Edit.Take = PlainEdit.take
 plain_edit (Edit.Beside side) = PlainEdit.beside side
 
--- the phrase or fragment that an edit brings may stand in a program
+-- the phrase or fragment that an edit at the stop of the cursor brings may, as plain data, stand in a program
 abbrev pub BringsWhatMayStand : Edit → Type 0
 BringsWhatMayStand (Edit.Fill template) = Unit {0}
 BringsWhatMayStand (Edit.Enter phrase) = IsPhrasePlace (Some (plain_phrase phrase))

@@ -50,7 +50,7 @@ fn category_in(kind: NodeKind, part: Option<u8>) -> Option<Category>
     }
 }
 
-/// Whether an assignment is typed at a stop at nodes of the kind.
+/// Whether at a stop that is a node of the kind an assignment may be typed.
 fn is_typed(kind: NodeKind) -> bool
     ensures { result ≡ is_typed kind }
 {

@@ -38,7 +38,8 @@ command_word line = if is_word_end (behind_word line) then Some (word_of line) e
 abbrev pub argument_of : List ℕ → List ℕ
 argument_of line = trimmed (behind_word line)
 
--- the command that a word and an argument are, where the word has a row in the table of commands
+-- which command a line is whose word has this row in the table of commands, or none, and behind which this argument
+-- stands
 abbrev pub command_by : Option PlainArgumentRule → List ℕ → PlainReading
 command_by (Some rule) argument = command_with rule argument
 command_by None argument = Err UnknownCommand

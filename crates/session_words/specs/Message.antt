@@ -14,15 +14,15 @@ pub record PlainRefusalRow : Type 0 where
   pub words : List ℕ
   pub value : Option ℕ
 
--- the row of a refusal's message, of which the words have no number behind them
+-- the row of a message that answers a key with a refusal, of which the words have no number behind them
 abbrev pub plain_row_of_words : ℕ → List ℕ → PlainRefusalRow
 plain_row_of_words number words = record { number = number; words = words; value = None }
 
--- the row of a refusal's message, of which the words have this number behind them
+-- the row of a message that answers a key with a refusal, of which the words have this number behind them
 abbrev pub numbered_row : ℕ → List ℕ → ℕ → PlainRefusalRow
 numbered_row number words n = record { number = number; words = words; value = Some n }
 
--- the row of each refusal, with the words of its message
+-- the row of the message that answers a key with each refusal: the number of its kind, and the words of its text
 abbrev pub refusal_row : RefusalMessage → PlainRefusalRow
 refusal_row refusal.UnknownCommand = plain_row_of_words 1 (codes "UNKNOWN COMMAND")
 refusal_row refusal.NotHere = plain_row_of_words 2 (codes "NOT HERE")

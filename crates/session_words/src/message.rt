@@ -112,7 +112,8 @@ pub enum Notice {
     TraceOff,
 }
 
-/// The row of a refusal's message: the number of its kind, the words, and the number behind them, if there is one.
+/// The row of a message that answers a key with a refusal: the number of its kind, the words of its text, and
+/// the number behind them, if there is one.
 #[derive(Clone, Copy)]
 struct RefusalRow {
     number: u8,
@@ -141,7 +142,7 @@ impl Message {
         }
     }
 
-    /// The number behind the words of a message, if there is one.
+    /// The number that a message has behind its words, if it is one with a number.
     fn value(self) -> Option<u32>
         ensures { result ≡ message_value self }
     {
@@ -160,7 +161,7 @@ impl RefusalMessage {
         self.row().number
     }
 
-    /// The row of each refusal's message.
+    /// The number, the words and the value of each message that is a refusal, of which its text is made.
     fn row(self) -> RefusalRow
         ensures number { result.number ≡ (refusal_row self).number }
         ensures words { result.words.now ≡ (refusal_row self).words }
@@ -226,7 +227,7 @@ impl Notice {
     }
 }
 
-/// The row of a refusal's message, of which the words have no number behind them.
+/// The row of a message that answers a key with a refusal, of which the words have no number behind them.
 fn row_of(number: u8, words: &'static [u8]) -> RefusalRow
     ensures number { result.number ≡ number }
     ensures words { result.words.now ≡ words.entry.now }

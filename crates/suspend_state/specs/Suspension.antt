@@ -13,7 +13,7 @@ use Rattle.plcs_store.specs.Resume.{IsKeptOf}
 abbrev pub paused : RunState → Run
 paused state = record { state = state; reason = RunReason.Paused; kept = None }
 
--- a run that stands still for this reason
+-- a suspended run, with what it keeps of its program, that stands still for this reason
 abbrev pub with_reason : RunReason → Run → Run
 with_reason reason run = record run { reason = reason }
 

@@ -61,7 +61,7 @@ fn copied_headings(alloc: Global, tree: &Tree, frames: &[Frame]) -> Result<Headi
     Ok(Headings::from_vec(headings))
 }
 
-/// The copied parts of the heading of the procedure in the slot.
+/// The parts of the heading of the procedure in the slot, copied from the program.
 fn copied_heading(alloc: Global, tree: &Tree, procedure: Slot) -> Result<CopiedParts, OutOfMemory>
     requires tree { IsTree tree.now }
     requires there { IsSome (procedure_at tree.now.items procedure.0) }
@@ -73,7 +73,7 @@ fn copied_heading(alloc: Global, tree: &Tree, procedure: Slot) -> Result<CopiedP
     copied_parts(alloc, node)
 }
 
-/// Main or the procedure in the slot, or `None` where none has it.
+/// Main or the procedure in the slot, whose heading is kept for a frame, or `None` where none has the slot.
 fn procedure_node(tree: &Tree, procedure: Slot) -> Option<&Node>
     requires tree { IsTree tree.now }
     ensures found { option_map (λ node. node.now) result ≡ procedure_at tree.now.items procedure.0 }
@@ -129,7 +129,7 @@ fn copied_items(
     Ok(DeclaredLists::from_vec(lists))
 }
 
-/// The effective items of the procedure in the slot, in listing order.
+/// A copy of the effective items of the procedure in the slot, in listing order, as it is kept for a frame.
 fn items_of(alloc: Global, decls: &Decls, procedure: Slot) -> Result<DeclaredList, OutOfMemory>
     ensures { IfOk result (λ items. items ≡ items_in decls.now.items procedure.0) }
 {

@@ -32,7 +32,7 @@ pub trait Suspending: Sized {
         ensures kept { OnOk result (Keeps tree.now.items (run self.old) (run self.new)) }
         ensures refused { OnErr result (run self.new ≡ run self.old) };
 
-    /// Says why the run stands still. It takes no memory.
+    /// Says for a run that stands still why it does. It takes no memory.
     fn set_reason(&mut self, reason: RunReason)
         ensures { run self.new ≡ with_reason reason (run self.old) };
 

@@ -20,8 +20,8 @@ pub record IsLeftStanding (run : Status) (status : KeptStatus) (behind now : Lis
   pub answer : status ≡ Run run
   pub same : now ≡ behind
 
--- a journal that was cleared: a crash leaves nothing, and at each moment of the clearing nothing or all
--- keys
+-- a journal was closed by clearing it, after a run of the editor: a crash leaves nothing, and at each moment of the
+-- clearing nothing or all keys
 pub record IsCleared (run : Status) (status : KeptStatus) (keys : List ℕ) (behind now : List DiskState)
     : Type 0 where
   pub done : run ≡ Done
@@ -29,8 +29,8 @@ pub record IsCleared (run : Status) (status : KeptStatus) (keys : List ℕ) (beh
   pub each : Throughout (LeavesOneOf [] keys) behind now
   pub nothing : Newest (LeavesOnly []) now
 
--- a journal that couldn't be cleared: at each moment of the clearing, and then, a crash leaves nothing or
--- all keys
+-- a journal that couldn't be cleared to close it after a run of the editor: at each moment of the clearing, and then, a
+-- crash leaves nothing or all keys
 pub record IsNotCleared (fault : DiskFault) (run : Status) (status : KeptStatus) (keys : List ℕ)
     (behind now : List DiskState) : Type 0 where
   pub done : run ≡ Done
@@ -45,7 +45,7 @@ Closes Cleared run status keys behind now = IsCleared run status keys behind now
 Closes (NotCleared fault) run status keys behind now =
     IsNotCleared fault run status keys behind now
 
--- the journal is closed by clearing it exactly where this holds
+-- how the journal is closed after a run of the editor: by clearing it exactly where this holds
 abbrev pub ClearsWhere : Type 0 → Closing → Type 0
 ClearsWhere quit LeftStanding = quit → ⊥
 ClearsWhere quit Cleared = quit

@@ -95,8 +95,8 @@ WholeRunByTask (Some (Edit options)) run closing before now taken last same_outs
 -- a run of the editor over an open journal
 pub record JournalWholeRun (task : Option PlainTask) (run : Status) (closing : Closing)
     (before now : KeptTold) (same_outside after_reads after_fault : Type 0) : Type 0 where
-  -- the bytes that were taken from the source of new keys, and one behind them at most that a failed
-  -- read took
+  -- the bytes that a session whose keys are kept took from its source of new keys, and one behind them at most that a
+  -- failed read took
   pub taken : List ℕ
   pub last : List ℕ
   pub took : Consumes before.left now.left (taken ++ last)

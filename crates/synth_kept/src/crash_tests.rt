@@ -71,7 +71,7 @@ fn walk_all(alloc: Global, walk: &mut Walk) -> Option<Walked> {
     walk_moments(alloc, walk, calls)
 }
 
-/// Finds the screens of the first keys, of none to all.
+/// Finds the screens of the first keys of the session, of none to all, as they would be without a crash.
 fn find_screens(alloc: Global, played: &mut Played, screens: &mut Vec<Vec<u8>>) -> Option<()> {
     for count in 0..=KEY_COUNT {
         played.find_wanted(alloc, &KEYS[..count])?;
@@ -120,7 +120,8 @@ fn is_shown(behind: &Played, screens: &[Vec<u8>], moment: usize) -> bool {
     behind.status == DONE && (is_screen(behind, screens, one) || is_screen(behind, screens, other))
 }
 
-/// The two counts of keys of which one is shown after so many calls.
+/// The two counts of keys of which one is shown where the session goes on with an image that a crash leaves
+/// after so many calls.
 fn key_counts(moment: usize) -> (usize, usize) {
     if moment > CALLS_OF_KEYS {
         return (0, KEY_COUNT);

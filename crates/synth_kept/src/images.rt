@@ -1,10 +1,10 @@
-//! The images of a disk that a crash may leave.
+//! The images that a crash of a session may leave of its disk.
 
 use key_journal::{Disk, DiskCall, MemDisk};
 use std::alloc::{AllocError, Global};
 use std::mem;
 
-/// The images that a crash may leave after calls on an empty disk, with what they are made of.
+/// The images that a crash may leave of the disk of a session whose keys are kept, with what they are made of.
 #[derive(Drop)]
 pub struct Images {
     pub all: Vec<Vec<u8>>,
@@ -17,7 +17,7 @@ pub struct Images {
 }
 
 impl Images {
-    /// No images yet.
+    /// No images yet of a session's disk.
     pub fn none(alloc: Global) -> Images {
         Images {
             all: Vec::new(alloc),
@@ -27,7 +27,8 @@ impl Images {
         }
     }
 
-    /// Finds each image that a crash may leave after these calls on an empty disk.
+    /// Finds each image that a crash may leave after these calls of a session on its disk, which was empty
+    /// before.
     pub fn find(&mut self, alloc: Global, calls: &[DiskCall]) -> Option<()> {
         self.disk = MemDisk::new(alloc, Vec::new(alloc));
         self.leave_disk(alloc)?;
@@ -48,7 +49,7 @@ impl Images {
         }
     }
 
-    /// Leaves the disk as it reads for the only image.
+    /// Leaves the session's disk as it reads for the only image.
     fn leave_disk(&mut self, alloc: Global) -> Option<()> {
         self.all.clear();
         let image = self.disk.bytes().to_vec(alloc).ok()?;
@@ -98,7 +99,8 @@ impl Images {
     }
 }
 
-/// Puts the image behind the torn ones, and then it with the byte at this place as it is written, or as another one.
+/// Puts an image of the session's disk behind the torn ones, and then it with the byte at this place as it is
+/// written, or as another one.
 fn push_torn(
     alloc: Global,
     image: &[u8],

@@ -52,19 +52,19 @@ impl Played {
         }
     }
 
-    /// Takes an empty disk, one call of which fails.
+    /// Has the next session played over an empty disk in memory, one call of which fails.
     pub fn take_disk(&mut self, alloc: Global, failing_call: u64) -> Option<()> {
         self.disk = MemDisk::new(alloc, [failing_call].to_vec(alloc).ok()?);
         Some(())
     }
 
-    /// Takes a disk that a crash left so.
+    /// Has the next session played over a disk in memory that a crash left so.
     pub fn take_image(&mut self, alloc: Global, image: &[u8]) -> Option<()> {
         self.disk = disk_of(alloc, image)?;
         Some(())
     }
 
-    /// Takes these words.
+    /// Takes these words for the next session that is played over a disk in memory.
     pub fn take_words(&mut self, alloc: Global, words: Words) -> Option<()> {
         match words {
             Words::Small => self.take_texts(alloc, SMALL.as_slice()),
@@ -72,7 +72,7 @@ impl Played {
         }
     }
 
-    /// Takes these texts as words.
+    /// Takes these texts as the words for the next session that is played over a disk in memory.
     fn take_texts(&mut self, alloc: Global, texts: &[&str]) -> Option<()> {
         self.words.clear();
         for text in texts {
@@ -106,7 +106,8 @@ impl Played {
         self.disk = disk;
     }
 
-    /// Finds what a session is to write that acts on these keys: what the editor without a journal writes for them.
+    /// Finds what a session over a disk in memory is to write on its sink where it acts on these keys: what the
+    /// editor without a journal writes for them.
     pub fn find_wanted(&mut self, alloc: Global, keys: &[u8]) -> Option<()> {
         self.wanted = MemSink::new(alloc, Vec::new(alloc));
         let mut keys = source_of(alloc, keys, NEVER)?;
@@ -121,7 +122,7 @@ impl Played {
         Some(())
     }
 
-    /// What a session is to write, as it was found last.
+    /// What a session played in memory is to write, as it was found last.
     pub fn wanted(&self) -> &[u8] {
         self.wanted.bytes()
     }

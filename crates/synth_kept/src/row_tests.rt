@@ -407,7 +407,7 @@ fn is_written(alloc: Global, played: &mut Played, written: Written) -> Option<bo
     }
 }
 
-/// Whether the bytes are so many pieces of the stored run.
+/// Whether the bytes that a session wrote are so many pieces of the stored run.
 fn are_pieces(bytes: &[u8], count: usize) -> bool {
     let mut left = bytes;
     for piece in &STORED_RUN[..count.min(ALL_PIECES)] {

@@ -17,7 +17,7 @@ use Rattle.synth_session.specs.KeyOutcome.{KeyOutcome, line_acceptance_outcome, 
 use Rattle.synth_session.specs.PlainSession.{PlainSession}
 use Rattle.synth_session.specs.TypedLine.{cursor_phrase}
 
--- the fragment at a stop, which the clip commands `.copy` and `.cut` take: the phrase in a part, or else the node
+-- the fragment that the commands of clips, `.copy` and `.cut`, take at a stop: the phrase in a part, or else the node
 abbrev pub fragment_there : PlainTree → PlainStop → Option ℕ → Option PlainFragment
 fragment_there tree stop None = option_map PlainFragment.node (node_at tree.items stop.path)
 fragment_there tree stop (Some part) = option_map PlainFragment.phrase (cursor_phrase tree stop)

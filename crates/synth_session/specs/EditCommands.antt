@@ -9,7 +9,7 @@ use Rattle.synth_session.specs.declared.answer.Refusal.TheVariants as why
 use Rattle.synth_session.specs.KeyOutcome.{KeyOutcome, program_acceptance_outcome, refusal_outcome}
 use Rattle.synth_session.specs.PlainSession.{PlainSession}
 
--- the refusal of a key where an edit of the program isn't made for this fault
+-- the refusal of a command that edits the program at the cursor, where the edit isn't made for this fault
 abbrev pub edit_refusal : TreeFault → Refusal
 edit_refusal TreeFault.NotHere = why.NotHere
 edit_refusal TreeFault.TooDeep = why.Tree TreeFault.TooDeep

@@ -85,8 +85,8 @@ pub record HaveReplied (request : Request) (reply : Reply) (before now : PlainFi
   pub faults : CountsFault reply before.faults now.faults
   pub wants : now.wants ≡ before.wants
 
--- the files' count of wants where memory ran out in a key: where nothing is asked of them it is as before, and a save takes no
--- memory of its own, so that the files wanted some in it
+-- what the files do to their count of wants where memory ran out in a key: where nothing is asked of them it is as
+-- before, and a save takes no memory of its own, so that the files wanted some in it
 abbrev pub CountsWant : Request → ℕ → ℕ → Type 0
 CountsWant Request.Nothing before now = now ≡ before
 CountsWant (Request.Read category text) before now = now ≡ before

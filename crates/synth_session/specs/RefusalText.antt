@@ -52,7 +52,7 @@ refusal_message why.FloatNotThere = Some (Message.Refusal words.FloatNotThere)
 refusal_message why.AtEdge = Some (Message.Refusal words.AtEdge)
 refusal_message why.NotBuilt = Some Message.NotBuilt
 
--- the text that is shown for a message, or nothing where there is none
+-- the text that is shown for the message of a refusal, or for another message, or nothing where there is none
 abbrev pub shown_message : Option Message → List ℕ
 shown_message message = option_map_or message_text message []
 

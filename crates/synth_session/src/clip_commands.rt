@@ -118,7 +118,7 @@ impl<W: Work> Session<W> {
     }
 }
 
-/// A copy of what stands at the stop, from which it can be taken, as a clip takes it: nothing in it is elided.
+/// The copy that `.copy` makes of what stands at the stop, from which it can be taken: nothing in it is elided.
 fn copy_there(alloc: Global, tree: &Tree, at: &Stop) -> Result<Fragment, OutOfMemory>
     requires tree { IsTree tree.now }
     requires taken { takes_at (roomless_tree tree.now) (plain_stop at.now) ≡ true }
@@ -184,7 +184,7 @@ fn slots_there(tree: &Tree, at: &Stop) -> u32
     }
 }
 
-/// Whether the clips would hold a fragment of so many slots under the name.
+/// Whether the clips would hold a fragment of so many slots under the name of a `.copy` or `.cut`.
 fn would_hold(clips: &Clips, name: &Name, slots: u32) -> bool
     ensures { result ≡ not (is_full name.now slots (kept_pairs clips.now.pairs)) }
 {

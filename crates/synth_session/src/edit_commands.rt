@@ -53,7 +53,7 @@ impl<W: Work> Session<W> {
     }
 }
 
-/// The refusal of a key where an edit of the program isn't made for this fault.
+/// The refusal of a command that edits the program at the cursor, where the edit isn't made for this fault.
 pub(crate) fn edit_refusal(fault: TreeFault) -> Refusal
     ensures { result ≡ edit_refusal fault }
 {

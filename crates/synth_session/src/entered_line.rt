@@ -187,7 +187,8 @@ const UNBUILT_WORDS: [&[u8]; 7] = [
     b"run", b"step", b"resume", b"back", b"trace", b"input", b"code",
 ];
 
-/// Whether a line that begins with a point is that of a command which isn't built yet.
+/// Whether a typed line that begins with a point is that of a command which isn't built yet, so that Enter
+/// refuses it.
 #[tactic(auto, unfolding(crate::specs::EnteredLine::is_unbuilt))]
 fn is_unbuilt(line: &[u8]) -> bool
     requires { IsTrue (begins_with_point line.now) }
@@ -199,7 +200,7 @@ fn is_unbuilt(line: &[u8]) -> bool
     }
 }
 
-/// Whether the word of a line is among these words of commands.
+/// Whether the word of the typed line that Enter takes is among these words of commands.
 fn is_among(word: &[u8], words: &[&[u8]]) -> bool
     ensures { result ≡ list_any (λ listed. bytes_eq word.now listed.now) words.now }
 {

@@ -90,7 +90,8 @@ impl<W: Work> Session<W> {
         }
     }
 
-    /// Begins with a program that was loaded in place of the one that is edited, with the cursor at main.
+    /// Begins with the program that the command `.load` has loaded, in place of the one that is edited, with
+    /// the cursor at main.
     fn begin_with(&mut self, program: Program<W>) -> Answer
         requires session { IsSession self.old }
         requires agrees { Agrees program }

@@ -79,7 +79,8 @@ fn shown_text(message: Option<Message>) -> MessageText
     }
 }
 
-/// Draws a program on the screen that is to be painted next, with these texts in the lowest rows.
+/// Draws the screen of a session as the one that is to be painted next: its program, and these texts in the
+/// lowest rows.
 fn draw_on<'a, W: Work>(
     screens: &mut Screens,
     program: &'a Program<W>,

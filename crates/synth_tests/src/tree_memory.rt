@@ -198,7 +198,7 @@ fn fault_of(alloc: Global, tree: &mut Tree, edit: Edit, at: &Path) -> Option<Tre
     }
 }
 
-/// The fault of a refusal, as for want of memory.
+/// The fault alone with which an edit of a tree was refused, as for want of memory.
 fn fault_alone(refused: Option<(TreeFault, Phrase)>) -> Option<TreeFault> {
     match refused {
         Some((fault, _)) => Some(fault),
@@ -220,7 +220,8 @@ fn phrase(alloc: Global, category: Category, text: &[u8]) -> Option<Phrase>
     Some(phrase)
 }
 
-/// Sets a part of the node at the path, and says why that is refused, if it is, as for want of memory.
+/// Makes the edit of a tree that sets a part of the node at the path, and says why it is refused, if it is, as
+/// for want of memory.
 fn set(tree: &mut Tree, at: &Path, part: u8, place: PhrasePlace) -> Option<TreeFault>
     requires tree { IsTree tree.old }
     requires place { IsPhrasePlace (plain_phrase_place place) }
@@ -295,8 +296,8 @@ fn assignment_at_last(alloc: Global, text: &[u8]) -> Option<Phrase>
     phrase(alloc, Category::Assignment, text)
 }
 
-/// Puts the assignment at the path. Where that is refused, as for want of memory, says why, and gives back what came
-/// back.
+/// Puts the assignment of a test at the path. Where that is refused, as for want of memory, says why, and gives
+/// back what came back.
 fn assign(alloc: Global, tree: &mut Tree, at: &Path, phrase: Phrase) -> Option<(TreeFault, Phrase)>
     requires tree { IsTree tree.old }
     requires phrase { IsPhrasePlace (Some (plain_phrase phrase)) }

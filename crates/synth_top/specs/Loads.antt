@@ -48,7 +48,7 @@ pub record CanLoad (options : PlainOptions) (stored : Option FileMap) (loads : P
   pub program : CanReply stored (program_request options.program) loads.program
   pub input : IsInputReply stored options.input loads.input
 
--- how many failures a reply for the input is
+-- how many failures a reply for the input is where files are loaded before the first screen
 abbrev pub input_failure : InputReply → ℕ
 input_failure (InputReply.Refused FileRefusal.FileFault) = 1
 input_failure reply = 0
@@ -69,7 +69,8 @@ abbrev pub loaded_input : InputReply → List ℕ
 loaded_input (InputReply.Loaded bytes) = bytes
 loaded_input reply = []
 
--- how many phrases are checked at most where a session is opened over what was loaded: each of its program
+-- how many phrases are checked at most where a session is opened over the files that were loaded before the first
+-- screen: each of its program
 abbrev pub opening_checks : PlainFirstLoads → ℕ
 opening_checks loads = phrase_count (tree_at_first (loaded_program loads.program))
 
@@ -98,6 +99,6 @@ abbrev pub first_session : PlainOptions → PlainFirstLoads → PlainSession
 first_session options loads =
     refusal_told (first_refusal loads) (opened_session options.size (loaded_program loads.program) (loaded_input loads.input))
 
--- the state of the opening screen; the loads leave the map as it is
+-- the state of the first screen, before which the files were loaded; the loads leave the map as it is
 abbrev pub first_state : PlainOptions → Option FileMap → PlainFirstLoads → EditorState
 first_state options stored loads = record { session = first_session options loads; files = stored }

@@ -16,7 +16,7 @@ pub record PlainOptions : Type 0 where
   pub program : Option (List ℕ)
   pub input : Option (List ℕ)
 
--- the number that an option's word is, in its range: `least` or more and `most` or less
+-- what an option of a whole run is by its word: a number in its range, `least` or more and `most` or less
 abbrev pub count_between : ℕ → ℕ → List ℕ → Option ℕ
 count_between least most word =
     option_and_then (λ n. if nat_le least n then Some n else None) (number_in_digits most word)
@@ -30,7 +30,8 @@ count_given least most usual (Some word) = count_between least most word
 abbrev pub is_name_given : Option (List ℕ) → Bool
 is_name_given name = option_map_or is_file_name name true
 
--- what is asked for by what words give: each number in its range, and each name of a file one that a file may have
+-- the options of a whole run that edits, by what words give: each number in its range, and each name of a file one that
+-- a file may have
 abbrev pub options_with : PlainGiven → Option PlainOptions
 options_with given =
     option_and_then (λ rows.

@@ -46,8 +46,8 @@ written state pressed =
 
 -- ---- what a run begins with
 
--- what is told of keys and screens at a moment of a run: the bytes that the source has left and how many reads it
--- counted, and the bytes that the sink took and how many wants of memory it counted
+-- what is told, at a moment of a whole run, of the bytes of keys and those of screens: the bytes that the source has
+-- left and how many reads it counted, and the bytes that the sink took and how many wants of memory it counted
 pub record ToldStreams : Type 0 where
   pub left : Option (List ℕ)
   pub reads : ℕ
@@ -101,18 +101,18 @@ pub record Course (options : PlainOptions) (first : EditorState) (before now : T
   pub can_reply : HaveReplies first pressed
   pub in_order : IsFront (keys_pressed pressed) (keys bytes)
   pub complete : IsFront (keys_pressed pressed) (completed bytes) ⊎ NoKeyComes options now bytes reads
-  -- how many bytes of all that is written the sink took
+  -- how many bytes the sink took of all that the run writes on screens
   pub count : ℕ
   pub wrote : Appends before.taken now.taken (take count (written first pressed))
 
 -- ---- why a run stopped
 
 module _ {options : PlainOptions} {first : EditorState} {before now : ToldStreams} (course : Course options first before now) where
-  -- the state after all keys that a run pressed
+  -- the state after all keys that a whole run pressed
   abbrev pub state_after : EditorState
   state_after = state_after_keys first course.pressed
 
-  -- all shots of a run: that of the opening screen, and then those of the keys
+  -- all shots of a whole run: that of the opening screen, and then those of the keys
   abbrev pub all_shots : List Shot
   all_shots = shot_of first.session ∷ shots first course.pressed
 
@@ -124,7 +124,7 @@ module _ {options : PlainOptions} {first : EditorState} {before now : ToldStream
   abbrev pub NoneLost : Type 0
   NoneLost = course.lost ≡ []
 
-  -- a run pressed just these keys, and none ended the session
+  -- a whole run pressed just these keys, and none ended the session
   pub record PressedAll (all : List Key) : Type 0 where
     pub pressed : keys_pressed course.pressed ≡ all
     pub going : ends first course.pressed ≡ false
@@ -217,13 +217,13 @@ module _ {options : PlainOptions} {first : EditorState} {before now : ToldStream
       (AllWritten × ReadCut) ⊎ ((NoneLost × (OpeningCut ⊎ ScreenCut) × Rose before.wants now.wants) ⊎ (AllWritten × NoneLost × TurnWanted wants_before wants_now))
   Stopped wants_before wants_now BadWords = ⊥
 
-  -- the bill of a run's turn in which memory ran out, where the key isn't among those pressed
+  -- in a whole run the bill of the turn in which memory ran out, where the key isn't among those pressed
   abbrev pub wanted_bill : (wants_before wants_now : ℕ) → TurnWanted wants_before wants_now → ℕ
   wanted_bill wants_before wants_now (inl last) = bill state_after (record { key = last.wanted; reply = last.reply })
   wanted_bill wants_before wants_now (inr step) = 0
 
-  -- the bill of a key after those that a run pressed, by why it stopped: of one that wanted memory, and else there is
-  -- none
+  -- the bill of a key after those that a whole run pressed, by why the run stopped: of one that wanted memory, and else
+  -- there is none
   abbrev pub last_bill : (wants_before wants_now : ℕ) (status : Status) → Stopped wants_before wants_now status → ℕ
   last_bill wants_before wants_now NoMemory (inl cut) = 0
   last_bill wants_before wants_now NoMemory (inr (inl cut)) = 0
@@ -266,7 +266,7 @@ pub record Ran (status : Status) (options : PlainOptions) (before now : Told) (a
   -- what the files did in the loads before the first screen
   pub loads : PlainFirstLoads
   pub can_load : CanLoad options before.files.stored loads
-  -- what was done from the first screen on, why it stopped, and how many wants the files had counted then
+  -- what the whole run did from the first screen on, why it stopped, and how many wants the files had counted then
   pub course : Course options (first_state options before.files.stored loads) before.streams now.streams
   pub wants : ℕ
   pub wants_later : before.files.wants ≤ wants

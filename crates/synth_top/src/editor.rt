@@ -85,7 +85,7 @@ impl<W: Work> Editor<W> {
         Ok(editor)
     }
 
-    /// Shows the refusal of a first load on the message row of the run, if there was one.
+    /// Shows on the message row, before the keys of the run come in, why a first load was refused, if one was.
     fn tell(&mut self, refusal: Option<FileRefusal>)
         requires { IsReady self.old }
         ensures session { plain_session self.new.session ≡ refusal_told refusal (plain_session self.old.session) }

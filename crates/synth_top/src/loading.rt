@@ -34,7 +34,7 @@ impl<T: Drop> FileLoad<T> {
         }
     }
 
-    /// Why the file was not loaded but refused, if it was.
+    /// Why a file that is loaded before the first screen was refused, if it was.
     fn refusal(&self) -> Option<FileRefusal>
         ensures { result ≡ load_refusal self.now }
     {

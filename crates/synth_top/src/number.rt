@@ -8,7 +8,7 @@ ghost use Rattle.synth_top.specs.Number.{value_of, number_in_digits};
 /// How many digits a number among the words has at most.
 const MOST_DIGITS: usize = 10;
 
-/// The number that a word of 1 to 10 digits spells, where it is at most `most`.
+/// The number that a word of the command spells in 1 to 10 decimal digits, where it is at most `most`.
 #[tactic(auto, unfolding(crate::specs::Number::number_in_digits))]
 pub fn number_in_digits(most: u32, text: &[u8]) -> Option<u32>
     ensures value { result ≡ number_in_digits most text.now }
@@ -24,14 +24,14 @@ pub fn number_in_digits(most: u32, text: &[u8]) -> Option<u32>
     Some(value as u32)
 }
 
-/// Whether a word consists of digits alone.
+/// Whether a word of the command consists of decimal digits alone.
 fn are_digits(text: &[u8]) -> bool
     ensures { result ≡ list_all is_ascii_digit text.now }
 {
     text.iter().all(|byte| byte.is_ascii_digit())
 }
 
-/// The number that some digits of a word spell.
+/// The number that the decimal digits of a word of the command spell.
 fn digits_value(digits: &[u8]) -> u64
     requires short { length digits.now ≤ MOST_DIGITS }
     requires digits { IsTrue (list_all is_ascii_digit digits.now) }

@@ -78,7 +78,8 @@ fn count_given(least: u32, most: u32, usual: u32, word: Option<&str>) -> Option<
     }
 }
 
-/// The number that an option's word is, where it lies between the two bounds, which are part of the range.
+/// The number that a word asks for as the option of a run, where it lies between the two bounds, which are part
+/// of the range.
 fn count_between(least: u32, most: u32, word: &str) -> Option<u32>
     ensures value { result ≡ count_between least most word.now }
     ensures range { IfSome result (λ n. (least ≤ n) × (n ≤ most)) }

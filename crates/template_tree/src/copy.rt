@@ -68,7 +68,7 @@ impl Node {
     }
 }
 
-/// Copies of what stands in the parts of a node.
+/// What stands in the parts of the copy of a node: copies of what stands in the node's.
 fn copy_phrase_places(
     alloc: Global,
     places: &[PhrasePlace],
@@ -82,7 +82,7 @@ fn copy_phrase_places(
     Ok(copies)
 }
 
-/// A copy of what stands in a part of a node.
+/// What stands in a part of the copy of a node: a copy of what stands in the node's.
 fn copy_phrase_place(alloc: Global, place: &PhrasePlace) -> Result<PhrasePlace, OutOfMemory>
     ensures { IfOk result (λ copy. plain_phrase_place copy ≡ plain_phrase_place place.now) }
 {

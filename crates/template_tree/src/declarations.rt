@@ -82,7 +82,7 @@ fn items_of_list(phrase: &Phrase) -> &[Item]
     }
 }
 
-/// How many cells a declared item of this size has: one where it is 0, which stands for a scalar.
+/// How many cells an item has whose declaration says this size: one where it is 0, which stands for a scalar.
 pub fn cells_of(size: u32) -> u32
     ensures { result ≡ cells_in size }
 {

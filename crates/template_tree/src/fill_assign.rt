@@ -55,7 +55,7 @@ impl Tree {
     }
 }
 
-/// Whether nodes of the kind become assignments where one is typed.
+/// Whether nodes of the kind become assignments where one is typed, as holes for statements and assignments do.
 fn takes_assignments(kind: NodeKind) -> bool
     ensures { IsTrue result ↔ ((kind ≡ NodeKind.StatementHole) ⊎ (kind ≡ NodeKind.Assign)) }
 {

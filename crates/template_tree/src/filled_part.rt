@@ -7,8 +7,8 @@ use crate::node::Node;
 use crate::phrase_place::PhrasePlace;
 use plcs_grammar::Phrase;
 
-/// The phrase that is read from the part of this number of the node, counted from 0; `None` where there
-/// is no such part, or an empty one.
+/// The phrase in the filled part of this number of the node, counted from 0; `None` where there is no such
+/// part, or an empty one.
 pub fn phrase_in(node: &Node, part: u8) -> Option<&Phrase>
     ensures { option_map (λ phrase. plain_phrase phrase.now) result ≡ part_at node.now.label.parts part }
 {

@@ -133,7 +133,7 @@ fn put_part<O: ByteOut>(category: Category, part: &PhrasePlace, out: &mut O)
     }
 }
 
-/// The lines of a program's listing are its bytes, split at each byte 10.
+/// What the listing of a tree's program is, split at each byte 10: its lines.
 pub fn listing_splits_in_lines()
     ensures { ListingSplitsInLines }
 {

@@ -71,8 +71,8 @@ impl Model for Nodes {
 }
 
 impl Node {
-    /// A node with no parts and nothing inside: a hole, or main before its lists are there. It takes no
-    /// memory.
+    /// A node with no parts, and no list of nodes inside it: a hole, or main before its lists are there. It
+    /// takes no memory.
     pub(crate) fn bare(alloc: Global, slot: Slot, kind: NodeKind) -> Node
         ensures { with_spare 0 result ≡ record { label = bare_label slot.0 kind; inner = forest [] } }
     {
@@ -101,14 +101,14 @@ impl Node {
 }
 
 impl Node {
-    /// What stands in the part of the node, or `None` where it has no such part.
+    /// What the node holds in its part of this number, or `None` where the node has no such part.
     pub fn part(&self, part: u8) -> Option<&PhrasePlace>
         ensures { option_map (λ place. plain_phrase_place place.now) result ≡ slice_get self.now.label.parts part }
     {
         self.parts.get(part as usize)
     }
 
-    /// Whether the node is a comment whose refinement is hidden.
+    /// What the node keeps of itself: whether it is a comment whose refinement is hidden.
     pub fn is_elided(&self) -> bool
         ensures { result ≡ self.now.label.elided }
     {
@@ -196,7 +196,7 @@ impl Nodes {
 }
 
 impl Nodes {
-    /// A list of two nodes.
+    /// A list in which these two nodes stand.
     pub(crate) fn two(alloc: Global, first: Node, second: Node) -> Result<Nodes, OutOfMemory>
         ensures { IfOk result (λ list. list.items ≡ first ∷ (second ∷ [])) }
     {

@@ -37,8 +37,8 @@ impl Tree {
 }
 
 impl Tree {
-    /// Lends the node at the path for writing, or `None` where the tree has none there. The one public
-    /// call that writes to a node is `Node::put_part`.
+    /// Finds a node by its path and lends it for writing, or `None` where the tree has none there. The one
+    /// public call that writes to a node is `Node::put_part`.
     pub fn node_mut(&mut self, path: &Path) -> Option<&mut Node>
         requires tree { IsTree self.old }
         ensures* writes_back { sem 𝓛 (LendsIf tree_row.the_row node_row.the_row self.entry result

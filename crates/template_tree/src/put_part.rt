@@ -1,4 +1,4 @@
-//! Parts of nodes, read and set.
+//! Parts of nodes that are set, and what may be set in them.
 ghost use Rattle.std.specs.Prelude.{◌≡◌, ◌↔◌, IsOk, IfOk, IfErr, IsTrue, Some, map, slice_get};
 ghost use Rattle.plcs_grammar.specs.Template.{plain_segment};
 ghost use Rattle.template_tree.specs.Programs.Part.{IsPhrasePlace, Takes, part_category, with_part};
@@ -52,15 +52,16 @@ fn may_be_empty(category: Category) -> bool
     category != Category::Assignment
 }
 
-/// The category of a part of a node of the kind, parts counted from 0, or `None` where it has no such
-/// part. It takes no memory.
+/// The category of what may be set in a part of a node of the kind, parts counted from 0, or `None` where it
+/// has no such part. It takes no memory.
 pub fn part_category(kind: NodeKind, part: u8) -> Option<Category>
     ensures { result ≡ part_category kind part }
 {
     part_of(kind.row().line, part)
 }
 
-/// The category of the part of this number in a row's line, or `None` where the line has no such part.
+/// The category of what may be set in a node's part of this number, as the line of its row has it, or `None`
+/// where the line has no such part.
 fn part_of(line: &[Segment], part: u8) -> Option<Category>
     ensures { result ≡ slice_get (parts_of (map plain_segment line.now)) part }
 {

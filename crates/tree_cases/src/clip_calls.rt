@@ -14,7 +14,7 @@ use plcs_base::{ByteOut, Name};
 use plcs_grammar::Phrase;
 use std::alloc::Global;
 
-/// A call on clips.
+/// A call on clips that a case of clips makes.
 #[derive(Clone, Copy)]
 pub(crate) enum ClipCall {
     /// `no_clips`: clips with nothing in them.
@@ -85,8 +85,8 @@ fn put_phrase(clips: &mut Clips, name: Name, phrase: Phrase, told: &mut Told)
     put(clips, name, Fragment::Phrase(phrase), told);
 }
 
-/// Puts the fragment under the name among the clips. Tells what was there before, or why it isn't taken, and what
-/// comes back.
+/// Answers a case of clips: puts the fragment under the name among them, and tells what was there before, or
+/// why it isn't taken, and what comes back.
 fn put(clips: &mut Clips, name: Name, fragment: Fragment, told: &mut Told)
     requires fragment { IsFragment (plain_fragment fragment) }
     requires few { slots_of (plain_fragment fragment) ≤ 4294967295 }

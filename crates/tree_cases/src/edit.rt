@@ -156,7 +156,7 @@ fn put(
     }
 }
 
-/// Tells that the text is no such phrase. What an edit answers then.
+/// Tells that the text is no such phrase as an edit of a tree wants. What the edit answers then.
 fn no_such_phrase(back: &mut Told) -> TreeFault {
     back.text(", no such phrase");
     TreeFault::OutOfMemory

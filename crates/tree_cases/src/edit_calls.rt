@@ -67,7 +67,7 @@ pub(crate) fn edit(
     }
 }
 
-/// Makes the edit, and tells its answer. Says whether it was made, or nothing where no path is meant.
+/// Makes the edit of a case, and tells its answer. Says whether it was made, or nothing where no path is meant.
 fn is_made(alloc: Global, tree: &mut Tree, step: Step<'_>, told: &mut Told) -> Option<bool>
     requires { IsTree tree.old }
     ensures { IsTree tree.new }
@@ -83,7 +83,7 @@ fn is_made(alloc: Global, tree: &mut Tree, step: Step<'_>, told: &mut Told) -> O
     Some(answer.is_ok())
 }
 
-/// Drops the hole at the path, and says what was changed.
+/// Makes the edit of a case that drops the hole at the path, and says what was changed.
 fn dropped(tree: &mut Tree, at: &Path) -> Result<Change, TreeFault>
     requires { IsTree tree.old }
     ensures { IsTree tree.new }
@@ -94,7 +94,7 @@ fn dropped(tree: &mut Tree, at: &Path) -> Result<Change, TreeFault>
     }
 }
 
-/// Makes another edit at the path, and says what was changed.
+/// Makes the edit of a case at the path, one that drops no hole, and says what was changed.
 fn changed(
     alloc: Global,
     tree: &mut Tree,
@@ -111,7 +111,7 @@ fn changed(
     }
 }
 
-/// Tells what an edit of a case changed, or why it is refused, and what comes back then.
+/// Tells the answer in a case of edits: what the edit changed, or why it is refused, and what comes back then.
 pub(crate) fn tell_answer(answer: Result<Change, TreeFault>, back: &Told, told: &mut Told) {
     match answer {
         Ok(change) => tell_change(change, told),
@@ -199,8 +199,8 @@ fn nested(alloc: Global, tree: &mut Tree, times: u32, at: Path, template: Templa
     times
 }
 
-/// Makes the edits that the lines of text say, and undoes them. Tells each answer, and whether each step back led to
-/// the tree before it.
+/// Plays a case of many edits, those that the lines of text say, that are undone. Tells each answer, and
+/// whether each step back led to the tree before it.
 fn walk_lines(alloc: Global, tree: &mut Tree, text: &[u8], told: &mut Told) -> Option<()>
     requires { IsTree tree.old }
     ensures { IsTree tree.new }
@@ -214,7 +214,7 @@ fn walk_lines(alloc: Global, tree: &mut Tree, text: &[u8], told: &mut Told) -> O
     Some(())
 }
 
-/// The words of each line of the text, which says an edit.
+/// The words of each line of the text of a case of many edits; a line says one of them.
 fn lines_of(alloc: Global, text: &[u8]) -> Option<Vec<Vec<Vec<u8>>>> {
     let mut lines = Vec::new(alloc);
     for line in text.split(|byte| *byte == b'\n') {
@@ -235,8 +235,8 @@ fn steps_of(alloc: Global, lines: &[Vec<Vec<u8>>]) -> Option<Vec<Step<'_>>> {
     Some(steps)
 }
 
-/// Makes edits that are drawn at random and undoes them. Tells whether more than the least number were made,
-/// and whether each step back led to the tree before it.
+/// Plays a case of many edits, drawn at random, that are undone. Tells whether more than the least number were
+/// made, and whether each step back led to the tree before it.
 fn walk_at_random(
     alloc: Global,
     tree: &mut Tree,

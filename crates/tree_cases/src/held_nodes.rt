@@ -153,7 +153,7 @@ fn hold(held: &mut Clips, name: Name, fragment: Fragment, told: &mut Told)
     }
 }
 
-/// A copy of what is held under the name.
+/// A copy of what is held under the name beside the tree.
 pub(crate) fn copy_of(alloc: Global, held: &Clips, name: &[u8]) -> Option<Fragment>
     ensures { IfSome result (λ fragment. IsClip (plain_fragment fragment)) }
 {
@@ -162,7 +162,7 @@ pub(crate) fn copy_of(alloc: Global, held: &Clips, name: &[u8]) -> Option<Fragme
     Some(fragment)
 }
 
-/// Puts a copy of what is held under the name in place of the hole at the path.
+/// Puts a copy of the node that is held under the name in place of the hole at the path.
 fn insert_at(
     alloc: Global,
     trees: &mut Trees,

@@ -156,7 +156,7 @@ fn play(
     }
 }
 
-/// Plays a case on trees that leaves the tree as it is, if it takes these words.
+/// Plays one of a script's cases over trees, if it is one that leaves the tree as it is and takes these words.
 fn ask(
     alloc: Global,
     cases: &mut Cases,

@@ -224,7 +224,8 @@ fn tell_shown(tree: &Tree, slot: &[u8], told: &mut Told) -> Option<()>
     Some(())
 }
 
-/// The visible stop of the word: that at which the slot of its node is shown, or one of the parts behind that.
+/// The visible stop at which a case edits, by its word: that at which the slot of its node is shown, or one of
+/// the parts behind that.
 fn stop_at(tree: &Tree, word: &[u8]) -> Option<Stop>
     requires { IsTree tree.now }
     ensures { IfSome result (λ stop. IsStop (roomless_tree tree.now).items (plain_stop stop)) }

@@ -19,7 +19,7 @@ pub(crate) struct Trees {
 }
 
 impl Trees {
-    /// What cases have of trees first: a new tree, with no nodes held.
+    /// The tree that cases begin with, a new one, with no nodes held and none kept to compare it with.
     pub(crate) fn new(alloc: Global) -> Option<Trees>
         ensures { IfSome result (λ trees. IsTree trees.tree) }
     {
@@ -104,7 +104,7 @@ fn read(alloc: Global, tree: &mut Tree, text: &[u8], told: &mut Told) -> Option<
     Some(())
 }
 
-/// The tree of the listing that a case makes.
+/// The tree that a case makes, read from its listing.
 pub(crate) fn tree_of(alloc: Global, text: &[u8]) -> Result<Tree, FileRefusal>
     ensures { IfOk result IsTree }
 {

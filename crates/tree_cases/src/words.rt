@@ -107,7 +107,7 @@ pub(crate) fn find(tree: &Tree, word: &[u8]) -> Option<Path>
     At::of(word)?.find(tree)
 }
 
-/// The phrase of the category and the text that the words say.
+/// The phrase that two words of a case stand for, the one for its category, the other for its text.
 pub(crate) fn phrase_of(alloc: Global, category: &[u8], text: &[u8]) -> Option<Phrase>
     ensures { IfSome result (λ phrase. IsPhrasePlace (Some (plain_phrase phrase))) }
 {

@@ -11,17 +11,17 @@ use Rattle.tree_steps.specs.EditStep.{CameByEdits, IsEditStep, substance}
 
 -- ---- where slots stand
 
--- of a tree, as agreement asks: a live slot stands somewhere
+-- one of the laws of agreement: a live slot of a tree stands somewhere
 abbrev pub LiveSlotsStand : Type 0
 LiveSlotsStand =
     (items : Forest) (slot : ℕ) → 1 ≤ times slot items → (kind : NodeKind) × (around : Around) × StandsInside items slot kind around
 
--- of a tree, as agreement asks: a slot that stands somewhere is live
+-- one of the laws of agreement: a slot that stands somewhere in a tree is live
 abbrev pub StandingSlotsLive : Type 0
 StandingSlotsLive =
     (items : Forest) (slot : ℕ) (kind : NodeKind) (around : Around) → StandsInside items slot kind around → 1 ≤ times slot items
 
--- of a tree, as agreement asks: a slot that is there but once stands at one place
+-- one of the laws of agreement: a slot that is there but once in a tree stands at one place
 abbrev pub SlotsStandOnce : Type 0
 SlotsStandOnce =
     (items : Forest) (slot : ℕ) (kind other_kind : NodeKind) (around other : Around) → times slot items ≤ 1

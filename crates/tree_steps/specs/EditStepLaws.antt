@@ -81,7 +81,7 @@ RoomIsNoEdit = (one other : PlainTree) → roomless_tree one ≡ roomless_tree o
 abbrev pub EditStepsAreWays : Type 0
 EditStepsAreWays = (before after : PlainTree) → IsEditStep before after → CameByEdits before after
 
--- edits that follow edits; the last tree is one
+-- edits that follow edits make one way with them; the last tree is one
 abbrev pub EditsFollow : Type 0
 EditsFollow =
     (first second third : PlainTree) → IsTree third → CameByEdits first second → CameByEdits second third → CameByEdits first third

@@ -49,8 +49,8 @@ StatementsBegin =
     → sort_of kind ≡ Sort.Statement
     → (place : PlainPlace) × (Start tree.items slot ≡ Some place) × BeginsAt tree.items slot around place
 
--- a run that comes to a node other than a group and a comment, which alone pass it on to what stands inside them, begins at
--- that node itself
+-- the law of the place at which a run begins that comes to a node other than a group and a comment, which alone pass it
+-- on to what stands inside them: it is at that node itself
 abbrev pub OthersBeginThemselves : Type 0
 OthersBeginThemselves =
     (items : Forest) (slot : ℕ) (kind : NodeKind) (around : Around) → times slot items ≤ 1 → StandsInside items slot kind around
@@ -58,7 +58,7 @@ OthersBeginThemselves =
 
 -- ---- trees that agree
 
--- a slot that is live in trees that agree has the same loops around it
+-- trees that agree keep the loops around the places in a slot that is live in both
 abbrev pub AgreementKeepsLoops : Type 0
 AgreementKeepsLoops =
     (earlier later : PlainTree) (slot : ℕ) (was now : NodeKind) (one other : Around) → AgreesWith earlier later

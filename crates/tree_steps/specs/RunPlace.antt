@@ -16,12 +16,13 @@ use Rattle.tree_steps.specs.StandingSlot.{Around, StandsInside, loops_around, ou
 abbrev pub is_first_marked : Forest → (slot : ℕ) → Bool
 is_first_marked program slot = is_phrase_marked program slot 0
 
--- a run of the program has this place
+-- a run of the program has this place, by what is marked in it
 abbrev pub HasPlace : Forest → PlainPlace → Type 0
 HasPlace program place = Exists (is_first_marked program) program place
 
--- a point of a node stays one where another label stands in its slot: it is the start, or the kind and the parts are the same,
--- and in a GET, of which each variable is a point only where the list isn't marked, the mark of the first part
+-- by what is marked, a point of a node stays a place of a run where another label stands in its slot: it is the start,
+-- or the kind and the parts are the same, and in a GET, of which each variable is a point only where the list isn't
+-- marked, the mark of the first part
 abbrev pub KeepsPoint : (one other : Label) (was_marked is_marked : Bool) (point : ℕ) → Type 0
 KeepsPoint one other was_marked is_marked point =
     (point ≡ 0)
@@ -57,7 +58,7 @@ pub record SitesAlike (one other : Forest) : Type 0 where
   pub afters : (slot : ℕ) → After one slot ≡ After other slot
   pub exist : (marked : ℕ → Bool) (place : PlainPlace) → Exists marked one place ↔ Exists marked other place
 
--- two programs have the same sites, and the same places, each by its own marks
+-- two programs have the same sites, and the same places of a run, each by what is marked in it
 pub record PlacesAlike (one other : Forest) : Type 0 where
   pub sites : SitesAlike one other
   pub marked : (slot : ℕ) → is_first_marked one slot ≡ is_first_marked other slot

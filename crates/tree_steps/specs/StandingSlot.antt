@@ -43,7 +43,7 @@ loop_by_template Template.Comment slot = []
 loop_by_template Template.Proc slot = []
 loop_by_template Template.ProcP slot = []
 
--- the slot of a node of the kind as a list of loops that a run keeps
+-- where a node of the kind encloses a slot: its own slot as a list of loops, if it is a loop that a run keeps
 abbrev pub loop_by_kind : NodeKind → (slot : ℕ) → List ℕ
 loop_by_kind (NodeKind.Filled template) slot = loop_by_template template slot
 loop_by_kind NodeKind.DeclarationHole slot = []
@@ -52,7 +52,7 @@ loop_by_kind NodeKind.ProcedureHole slot = []
 loop_by_kind NodeKind.Main slot = []
 loop_by_kind NodeKind.Assign slot = []
 
--- the slots of the loops that a run keeps among these nodes, the outermost first
+-- the slots of the loops that a run keeps among the nodes in which a slot is enclosed, the outermost first
 abbrev pub loops_around : Around → List ℕ
 loops_around [] = []
 loops_around (node ∷ around) = loops_around around ++ loop_by_kind node.1 node.0

@@ -110,8 +110,8 @@ pub(crate) fn found_wanted(kind: Kind, found: Result<Kind, MarkKind>) -> Result<
     }
 }
 
-/// Whether an argument of a built-in function may have the kind, where this kind is taken there, or
-/// none is.
+/// Whether an argument in the call of a built-in function may be of the kind that was found for it, where this
+/// kind is taken there, or none is.
 fn takes_kind(taken: Option<Kind>, kind: Kind) -> bool
     ensures { result ≡ takes_kind taken kind }
 {

@@ -52,8 +52,8 @@ pub(crate) fn is_named_before(tree: &Tree, slot: Slot, name: &Name) -> bool
     false
 }
 
-/// Whether a procedure is found by the name: its heading is whole and has the name, and a procedure of
-/// the name may be called.
+/// Whether the node is, of the procedures of a program, one that is found by the name: its heading is whole and
+/// has the name, and a procedure of the name may be called.
 fn may_be_called_by(node: &Node, name: &Name) -> bool
     ensures { result ≡ is_some (signature_for name.now node.now) }
 {
@@ -91,7 +91,7 @@ pub(crate) fn procedure_item(tree: &Tree, k: u32) -> Option<&Node>
     tree.node(&path_of_item(k))
 }
 
-/// Main or the procedure on the path, which leads to it or to a node in it.
+/// Main or the procedure of the program, found by a path that leads to it or to a node in it.
 pub(crate) fn procedure_item_on<'a>(tree: &'a Tree, path: &Path) -> Option<&'a Node>
     requires tree { IsTree tree.now }
     ensures item { option_map (λ node. node.now) result ≡ procedure_item_on tree.now.items path.now.items }

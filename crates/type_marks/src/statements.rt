@@ -41,7 +41,7 @@ pub(crate) fn expr_offence(
     offence_in(found_wanted(kind, kind_of(expr, decls, procedure)))
 }
 
-/// The first offence in a list of expressions, whose kinds are found one after the other.
+/// The first offence in a list of expressions in a statement, whose kinds are found one after the other.
 pub(crate) fn exprs_offence(exprs: &[Expr], decls: &Decls, procedure: Slot) -> Option<MarkKind>
     ensures { result ≡ offence_in (kinds_of (items_in decls.now.items procedure.0) (plain_exprs exprs.now)) }
 {
@@ -111,7 +111,7 @@ fn parameter_offence(
     None
 }
 
-/// How often the name stands in a list of parameters.
+/// How often the name stands in a list of parameters, where more than once is an offence.
 fn times_named(name: &Name, names: &[Name]) -> usize
     ensures { result ≡ count_by (bytes_eq name.now) names.now }
 {

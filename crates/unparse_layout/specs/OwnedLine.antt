@@ -24,18 +24,20 @@ pub record OwnedLine : Type 0 where
   pub level : ℕ
   pub stretches : List Stretch
 
--- the stretch of a line that is written for a segment of it, where the next part has this number
+-- the stretch of a line of the screen that is written for a segment of its node's line, where the next part has this
+-- number
 abbrev pub stretch_of : (next : ℕ) → PlainSegment → List (Option PlainPhrase) → Stretch
 stretch_of next (PlainSegment.words bytes) parts = record { part = None; filled = false; bytes = bytes }
 stretch_of next (PlainSegment.part category) parts =
     record { part = Some next; filled = is_some (part_at parts next); bytes = part_text category (part_at parts next) }
 
--- the number of the next part of a node's line behind the stretch of a segment
+-- the number of the next part in a line of the screen that belongs to a node, behind the stretch of a segment
 abbrev pub next_after : ℕ → PlainSegment → ℕ
 next_after next (PlainSegment.words bytes) = next
 next_after next (PlainSegment.part category) = next + 1
 
--- the stretches of a node's first line, which are written for these segments, of which the next part has this number
+-- the stretches of the first line of the screen that belongs to a node, written for these segments, of which the next
+-- part has this number
 abbrev pub stretches_of : (next : ℕ) → List PlainSegment → List (Option PlainPhrase) → List Stretch
 stretches_of next [] parts = []
 stretches_of next (segment ∷ segments) parts = stretch_of next segment parts ∷ stretches_of (next_after next segment) segments parts

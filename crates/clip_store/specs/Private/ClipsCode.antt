@@ -14,7 +14,7 @@ abbrev pub case_of : PlainFragment → PlainNode ⊎ PlainPhrase
 case_of (PlainFragment.node n) = inl n
 case_of (PlainFragment.phrase p) = inr p
 
--- the fragment of clips that is the one or the other of its two cases
+-- the fragment of clips that is told apart by this case, the one or the other of two
 abbrev pub fragment_of : PlainNode ⊎ PlainPhrase → PlainFragment
 fragment_of (inl n) = PlainFragment.node n
 fragment_of (inr p) = PlainFragment.phrase p

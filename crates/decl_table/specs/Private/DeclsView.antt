@@ -10,15 +10,15 @@ use Rattle.decl_table.specs.PlainDecls.{PlainHeadings, PlainDecls, PlainUses, sl
 use Rattle.decl_table.specs.Private.ItemsView.{items_code}
 use Rattle.decl_table.specs.Private.UsesView.{AddsNodes, uses_code}
 
--- the code of the items of procedures in a table of declarations
+-- the code of the items of procedures in what a table in memory is seen as
 abbrev pub item_map_code : Coded ItemMap
 item_map_code = code coded_ℕ items_code
 
--- the code of the headings in a table of declarations
+-- the code of the headings in what a table in memory is seen as
 abbrev pub headings_code : Coded PlainHeadings
 headings_code = coded_list (coded× (coded_list coded_ℕ) coded_ℕ)
 
--- the code of a table of declarations
+-- the code of what a table in memory is seen as
 abbrev pub decls_code : Coded PlainDecls
 decls_code =
     code_by (ItemMap × (PlainHeadings × PlainUses)) (coded× item_map_code (coded× headings_code uses_code))

@@ -28,6 +28,6 @@ pub record IsKept (a : Inside) : Type 0 where
   pub counted : a.cells ≡ cells (items_of a.shapes.entries)
   pub few : a.cells ≤ most_cells
 
--- the code of the effective items of a procedure
+-- how the effective items of a procedure, as they are seen, are told apart
 abbrev pub items_code : Coded (List Declared)
 items_code = coded_list declared_row.the_row.coded

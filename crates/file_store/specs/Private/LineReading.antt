@@ -9,7 +9,7 @@ use Rattle.template_tree.specs.Listings.Line.{part_text, segments_text}
 use Rattle.template_tree.specs.Programs.Program.{AreParts, IsPart, parts_of}
 use Rattle.file_store.specs.Private.Reader.{Said, IsSaying, text_of}
 
--- the blanks with which the text of a line of the level begins
+-- the blanks that are read at the front of the text of a line of the level
 abbrev pub blank_bytes : ℕ → List ℕ
 blank_bytes level = replicate (2 * level) 32
 

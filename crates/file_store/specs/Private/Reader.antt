@@ -26,7 +26,7 @@ pub data Saying : Type 0 where
   lead : List ℕ → Saying
   last : List ℕ → Saying
 
--- what is written behind the blanks of a line that says this to the reader
+-- what is written behind the blanks of a line that says this to the machine that the reader of lines is
 abbrev pub text_of : Saying → List ℕ
 text_of (head kind parts) = segments_text (row_of kind).line parts
 text_of (lead text) = text

@@ -6,7 +6,8 @@ use Rattle.file_store.specs.declared.refusal.FileRefusal.{FileRefusal}
 use Rattle.file_store.specs.Private.LineReading.{Says}
 use Rattle.file_store.specs.Private.Reader.{Said, OpenNodes, opens, line_taken}
 
--- how far the reader has come: the open lists, how many lines were read, and in how many of them a node began
+-- what the reader has taken so far: the open lists to which it has come, how many lines were read, and in how many of
+-- them a node began
 pub record Come : Type 0 where
   pub stack : OpenNodes
   pub lines : ℕ
@@ -46,7 +47,7 @@ IsLineRefused line before FileRefusal.NoFile = ⊥
 IsLineRefused line before FileRefusal.FileFault = ⊥
 IsLineRefused line before FileRefusal.TooLong = ⊥
 
--- why the reader refuses a listing whose line of this number wasn't read
+-- what a line of this number that wasn't read does to the reader: why it then refuses the listing
 abbrev pub refused_in : (number : ℕ) → NotRead → FileRefusal
 refused_in number NotRead.OutOfMemory = FileRefusal.OutOfMemory
 refused_in number NotRead.Refused = FileRefusal.NotAListing number

@@ -16,7 +16,8 @@ use std::alloc::Global;
 use template_tree::{Node, Nodes, PhrasePlace};
 
 impl OpenList {
-    /// An open list without items, which has come so far, as a line that opens a node makes it.
+    /// What a line that opens a node does to the open lists: it makes this one, without items, which has come
+    /// so far.
     fn new(alloc: Global, filling: Filling) -> OpenList
         ensures { open_list_of result ≡ record { items = forest []; filling = filling_of filling } }
     {
@@ -130,7 +131,8 @@ fn closed(own: OpenList, frame: OpenNode) -> Result<OpenList, NotRead>
     with_node(around, node)
 }
 
-/// The kind of an open node of the shape with so many items: an IF with one body alone has no ELSE.
+/// The kind of an open node of the shape once a line has ended it, with so many items: an IF with one body
+/// alone has no ELSE.
 fn kind_with(kind: NodeKind, count: usize) -> NodeKind
     ensures { (items : Forest) → count ≡ min (length (nodes items)) (2 ^ 64 - 1) → result ≡ kind_with kind items }
 {
@@ -143,7 +145,7 @@ fn kind_with(kind: NodeKind, count: usize) -> NodeKind
     }
 }
 
-/// An open list with one item more.
+/// The open list around a node that has ended, with that node as one item more.
 fn with_node(list: OpenList, node: Node) -> Result<OpenList, NotRead>
     ensures { Gives open_list_of result (Some (record (open_list_of list) {
       items = join (open_list_of list).items (roomless (Forest.cons node.label node.inner Forest.nil));
@@ -165,7 +167,7 @@ fn with_node(list: OpenList, node: Node) -> Result<OpenList, NotRead>
     })
 }
 
-/// The open list, which has come so far.
+/// The open list as a line leaves it that brings it so far.
 fn with_filling(list: OpenList, filling: Filling) -> OpenList
     ensures { open_list_of result ≡ record (open_list_of list) { filling = filling_of filling } }
 {

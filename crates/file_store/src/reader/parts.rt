@@ -229,7 +229,8 @@ impl ByteOut for Awaited<'_> {
     }
 }
 
-/// What stands behind the words that divide parts in the text of a line, if it begins with them.
+/// What is left of the text of a line that is read, behind the words where a part of it ends, if it begins with
+/// them.
 pub(crate) fn behind<'a>(text: &'a [u8], words: &[u8]) -> Option<&'a [u8]>
     ensures { MatchOption result ((rest : List ℕ) → text.now ≢ words.now ++ rest)
         (λ rest. text.now ≡ words.now ++ rest.now) }

@@ -41,7 +41,7 @@ pub record Replays {E : Type 0} (given : ℕ) (past past_after : List DiskState)
   pub each : Throughout (LeavesOnly (kept_keys past)) past past_after
   pub found : IfOk result (λ key. FindsKey key given (kept_keys past) past_after)
 
--- how far a journal has come once a kept key was found, or none
+-- what the step of a read that looks for a kept key makes of the stage: the key was found, or there is none
 abbrev pub stage_after : Option ℕ → Stage
 stage_after (Some key) = Replaying
 stage_after None = Appending

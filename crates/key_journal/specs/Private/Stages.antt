@@ -9,12 +9,12 @@ use Rattle.key_journal.specs.declared.stage.GateContent.TheVariants.{Open, Shut,
 use Rattle.key_journal.specs.declared.stage.Stage.{Stage}
 use Rattle.key_journal.specs.declared.stage.Stage.TheVariants.{Unsynced, Replaying, Appending}
 
--- keys as they stand on the disk: open gates, each with its key
+-- keys as they stand on the disk of a journal that has come past them: open gates, each with its key
 abbrev pub blocks : List ℕ → List ℕ
 blocks [] = []
 blocks (key ∷ keys) = 1 ∷ key ∷ blocks keys
 
--- the bytes of a journal's disk are so many keys behind open gates, and then a gate that isn't open
+-- how far a journal has come on its disk: the bytes are so many keys behind open gates, and then a gate that isn't open
 pub record IsShut (count : ℕ) (bytes : List ℕ) : Type 0 where
   pub keys : List ℕ
   pub gate : ℕ
@@ -23,7 +23,8 @@ pub record IsShut (count : ℕ) (bytes : List ℕ) : Type 0 where
   pub many : length keys ≡ count
   pub shut : gate ≢ 1
 
--- the bytes of a journal's disk are so many keys behind open gates, and then at most one byte
+-- how far a journal has come whose disk is cut off: the bytes are so many keys behind open gates, and then at most one
+-- byte
 pub record IsCut (count : ℕ) (bytes : List ℕ) : Type 0 where
   pub keys : List ℕ
   pub rest : List ℕ
@@ -54,8 +55,8 @@ HoldsAt Unsynced given past = Newest (LeavesAtLeast given) past
 HoldsAt Replaying given past = Newest (IsReplaying given) past
 HoldsAt Appending given past = Newest (IsAppending given) past
 
--- the bytes of a journal's disk begin with this block: an open gate with its key, a gate that isn't open, or at most
--- one byte
+-- the bytes of a journal's disk, from where the journal has come, begin with this block: an open gate with its key, a
+-- gate that isn't open, or at most one byte
 abbrev pub BeginsWithGate : GateContent → List ℕ → Type 0
 BeginsWithGate (Open key) bytes = (rest : List ℕ) × (bytes ≡ 1 ∷ key ∷ rest)
 BeginsWithGate Shut bytes = (gate : ℕ) × (rest : List ℕ) × (bytes ≡ gate ∷ rest) × (gate ≢ 1)

@@ -13,7 +13,7 @@ abbrev pub over_of : Over → OverLimit
 over_of (NumberTooLarge place) = OverLimit.number_too_large place
 over_of (TooDeep place) = OverLimit.too_deep place
 
--- the place of what the check finds past a limit
+-- the place of what the check finds past a limit, as the definitions of the grammar have it
 abbrev pub over_offset : OverLimit → ℕ
 over_offset (OverLimit.number_too_large place) = place
 over_offset (OverLimit.too_deep place) = place

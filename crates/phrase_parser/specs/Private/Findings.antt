@@ -33,7 +33,7 @@ pub record Seen : Type 0 where
   pub class : TokenClass
   pub start : ℕ
 
--- what the check sees of a piece: the class of its token and the place
+-- what the check of the tokens of a text sees of a piece, to find what is wrong: the class of its token and the place
 abbrev pub seen_of : Piece → Seen
 seen_of piece = record { class = class_of piece.token; start = piece.start }
 

@@ -247,12 +247,13 @@ may_end item_had = true
 may_end length_had = true
 may_end shape = false
 
--- the level that a parenthesis opens behind an operand, by the recognizer's count
+-- the level that a parenthesis behind an operand opens in the recognizer, the machine without trees
 abbrev pub level_after : Last → ℕ
 level_after Last.Operand = 0
 level_after (Last.Named is_builtin level) = level + 1
 
--- the level that a parenthesis opens behind a name of a purpose, by the recognizer's count; an array's size opens none
+-- the level that a parenthesis behind a name of a purpose opens in the recognizer, the machine without trees; an
+-- array's size opens none
 abbrev pub level_by_purpose : Purpose → ℕ
 level_by_purpose Purpose.Item = 0
 level_by_purpose purpose = 1

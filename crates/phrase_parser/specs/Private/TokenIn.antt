@@ -8,11 +8,11 @@ use Rattle.phrase_parser.specs.declared.token.TokenKind.{TokenKind}
 use Rattle.phrase_parser.specs.declared.token.TokenKind.TheVariants as kind
 use Rattle.phrase_parser.specs.declared.token.Placed.{Placed}
 
--- the bytes of a token that stand between its quotes, where it is a character constant
+-- the bytes that a token in its text has between its quotes, where it is a character constant
 abbrev pub between_quotes : List ℕ → List ℕ
 between_quotes bytes = slice_range bytes 1 (length bytes - 1)
 
--- the token of the kind that the bytes are
+-- what a token of the kind is that has these bytes in its text
 abbrev pub token_from : TokenKind → List ℕ → Token
 token_from kind.Name bytes = Token.name bytes
 token_from kind.Keyword bytes = Token.keyword bytes
@@ -29,7 +29,7 @@ bytes_in text placed = slice_range text placed.start placed.end
 abbrev pub token_in : List ℕ → Placed → Token
 token_in text placed = token_from placed.kind (bytes_in text placed)
 
--- the bytes of a token are a character constant
+-- the bytes of a token in its text are a character constant: such a value in quotes
 pub record IsConstant (bytes : List ℕ) : Type 0 where
   pub value : List ℕ
   pub whole : bytes ≡ quoted value

@@ -148,7 +148,8 @@ pub fn shift_infix(
     }
 }
 
-/// The state that a stack becomes after an infix operator whose left operand is joined already.
+/// What the builder's stack becomes after an infix operator whose left operand is joined already: a state in
+/// which an operand is wanted.
 pub fn after_infix(stack: ParseStack, left: Expr, op: InfixOp) -> Result<ParseState, AllocError>
     ensures { IfOk result (λ s. state_of s ≡ after_infix op (pair_of (stack, left))) }
 {

@@ -23,7 +23,8 @@ pub enum Ground {
     CallList,
 }
 
-/// The shape on a ground alone: an operand is wanted, and nothing is open but the phrase's own expression.
+/// The shape on the ground alone of an expression that stands in no other: an operand is wanted, and nothing
+/// else is open.
 pub fn wanted(alloc: Global, place: Ground, level: u32) -> Shape
     ensures { shape_of result ≡ model.wanted place [] level }
 {

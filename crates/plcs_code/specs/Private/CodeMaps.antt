@@ -9,19 +9,19 @@ use Rattle.plcs_code.specs.Gen.{AddressMap, EntryMap, PlainCode, SpanMap}
 use Rattle.plcs_code.specs.PlainInstr.{PlainInstr}
 use Rattle.plcs_code.specs.Private.InstrCode.{block_code}
 
--- the code of the map of spans
+-- the code of the map of spans that code in memory has
 abbrev pub span_map_code : Coded SpanMap
 span_map_code = code coded_ℕ (coded× coded_ℕ coded_ℕ)
 
--- the code of the map of addresses
+-- the code of the map of addresses that code in memory has
 abbrev pub address_map_code : Coded AddressMap
 address_map_code = code place_row.the_row.coded coded_ℕ
 
--- the code of the map of effective headings
+-- the code of the map of effective headings that code in memory has
 abbrev pub entry_map_code : Coded EntryMap
 entry_map_code = code (coded_list coded_ℕ) entry_row.the_row.coded
 
--- the code of a program's code
+-- the code of what a program's code in memory is seen as
 abbrev pub plain_code_code : Coded PlainCode
 plain_code_code =
     code_by (List PlainInstr × (AddressMap × (EntryMap × SpanMap)))

@@ -31,7 +31,7 @@ HasItems map label items = (marks : MarkMap) → own_pieces marks items label �
 
 -- ---- lengths counted ahead
 
--- lengths that were counted ahead are told by their list
+-- lengths that were counted ahead of code that is laid node by node are told by their list
 abbrev pub lengths_code : Coded (List NodeLength)
 lengths_code = coded_list length_row.the_row.coded
 
@@ -64,11 +64,11 @@ laid_code =
     code_by (List PlainInstr × List NodeSpan) (coded× block_code (coded_list span_row.the_row.coded))
     (λ laid. (laid.instrs, laid.spans)) (λ t. record { instrs = t.0; spans = t.1 }) (λ _. refl)
 
--- code while it is laid, with some more instructions
+-- code while it is laid node by node, with some more instructions
 abbrev pub with_instrs : List PlainInstr → PlainLaid → PlainLaid
 with_instrs code laid = record { instrs = laid.instrs ++ code; spans = laid.spans }
 
--- code while it is laid, with one more span
+-- code while it is laid node by node, with one more span
 abbrev pub with_span : NodeSpan → PlainLaid → PlainLaid
 with_span span laid = record { instrs = laid.instrs; spans = laid.spans ++ (span ∷ []) }
 
@@ -80,7 +80,7 @@ with_nodes marks items between nodes laid =
       spans = laid.spans ++ node_spans marks items (length laid.instrs) (length between) nodes;
     }
 
--- the jumps of a node that is laid, inside which the codes of nodes have these lengths
+-- the jumps of a node that is laid, by the lengths that were counted ahead of the codes of the nodes inside it
 abbrev pub jumps_by : MarkMap → ItemMap → Label → NodeLength → CodeJumps
 jumps_by marks items label lengths =
     own_jumps marks label (length (pieces marks items label).before) lengths.first lengths.others

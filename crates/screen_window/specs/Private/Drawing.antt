@@ -7,7 +7,8 @@ use Rattle.screen_window.specs.PlainView.{PlainView}
 use Rattle.screen_window.specs.Cursor.{begins_node}
 use Rattle.screen_window.specs.Window.{window_line}
 
--- the program's line in a row of the screen that is drawn, where that lies in the window, which has so many rows
+-- the program's line in a row of the grid on which a view is drawn, where that lies in the window, which has so many
+-- rows
 abbrev pub row_line : ℕ → PlainView → ℕ → Option PlainLine
 row_line window view row = if nat_lt row window then window_line view row else None
 
@@ -16,7 +17,7 @@ abbrev pub begins_stop : Option ℕ → Option PlainLine → Bool
 begins_stop None laid = false
 begins_stop (Some slot) laid = begins_node slot laid
 
--- the first row of the window, of so many that are drawn from this one on, that shows the node's first line
+-- while a view is drawn, the first row of the window, of so many from this one on, that shows the node's first line
 abbrev pub row_from : PlainView → Option ℕ → ℕ → ℕ → Option ℕ
 row_from view slot from rows = find (λ row. begins_stop slot (window_line view row)) (range_with_len from rows)
 

@@ -5,7 +5,8 @@ use Rattle.synth_kept.specs.Closing.Closing.{LeftStanding, Cleared, NotCleared}
 use Rattle.synth_top.specs.declared.status.Status.{Status}
 use Rattle.synth_top.specs.declared.status.Status.TheVariants.{Done}
 
--- a journal is to be cleared: the editor is done, some key was given, and the last answer wasn't the end
+-- where the program closes a journal by clearing it: the editor is done, some key was given, and the last answer wasn't
+-- the end
 pub record IsToClear (run : Status) (given : ℕ) (ended : Bool) : Type 0 where
   pub done : run ≡ Done
   pub some : given ≢ 0

@@ -25,7 +25,7 @@ pub record FailsToClear (status : KeptStatus) (past now : List DiskState)
   pub clears : Clears past now (Err fault)
   pub cause : HasCause {T = Unit {0}} Failed faults_before faults_now (Err fault)
 
--- a journal was cleared after a run, or couldn't be
+-- what clearing a journal after a run did: it was cleared, or couldn't be
 abbrev pub ClearsKeys : KeptStatus → List DiskState → List DiskState → ℕ → ℕ → Type 0
 ClearsKeys status past now faults_before faults_now =
     ClearsAll status past now faults_before faults_now

@@ -38,7 +38,7 @@ IsTextFault standing (NumberTooLarge place) = standing ≡ Standing.over (OverLi
 IsTextFault standing (TooDeep place) = standing ≡ Standing.over (OverLimit.too_deep place)
 IsTextFault standing OutOfMemory = Unit {0}
 
--- this was read of phrase text of this standing: its phrase, or its fault
+-- this was read of phrase text of this standing: its phrase, or the fault for which the phrase text isn't entered
 abbrev pub IsReadOf : Standing → Result Phrase PhraseFault → Type 0
 IsReadOf standing (Ok phrase) = standing ≡ Standing.phrase (plain_phrase phrase)
 IsReadOf standing (Err fault) = IsTextFault standing fault

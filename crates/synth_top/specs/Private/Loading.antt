@@ -50,17 +50,17 @@ abbrev pub load_content : {T : Type 0} → FileLoad T → Option T
 load_content (FileLoad.Loaded content) = Some content
 load_content load = None
 
--- why a file was refused, if it was
+-- why loading a file was refused, before a session is opened, if it was
 abbrev pub load_refusal : {T : Type 0} → FileLoad T → Option FileRefusal
 load_refusal (FileLoad.Refused refusal) = Some refusal
 load_refusal load = None
 
--- a program that was loaded is a tree
+-- what loading the file of the program gave, before a session is opened, is a tree
 abbrev pub IsTreeIfLoaded : FileLoad PlainTree → Type 0
 IsTreeIfLoaded (FileLoad.Loaded tree) = IsTree tree
 IsTreeIfLoaded load = Unit {0}
 
--- an input that was loaded is no longer than it may be
+-- what loading the file of the input gave, before a session is opened, is no longer than the input may be
 abbrev pub IsInputIfLoaded : FileLoad (Vec ℕ Global) → Type 0
 IsInputIfLoaded (FileLoad.Loaded bytes) = length bytes.items ≤ longest_input
 IsInputIfLoaded load = Unit {0}

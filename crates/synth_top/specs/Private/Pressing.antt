@@ -32,25 +32,27 @@ use Rattle.synth_top.specs.Keys.{IsFront}
 abbrev pub IsReady : {W : Type 0} → Editor W → Type 0
 IsReady e = IsSession e.session
 
--- an editor in which no key was pressed, before its first screen
+-- an editor at a moment of a run before any key is pressed, and before its first screen
 pub record IsUnshown {W : Type 0} (e : Editor W) : Type 0 where
   pub ready : IsReady e
   pub painted : shown_grid e.session ≡ blank_grid (plain_session e.session).size.rows (plain_session e.session).size.cols
   pub reader : e.reader ≡ []
 
--- an editor with the session of these options and loads, before its first screen and before keys are pressed
+-- an editor with the session of these options and loads, at a moment of a run before any key is pressed, and before its
+-- first screen
 pub record IsOpened {W : Type 0} (options : PlainOptions) (loads : PlainFirstLoads) (e : Editor W) : Type 0 where
   pub unshown : IsUnshown e
   pub session : plain_session e.session ≡ first_session options loads
 
--- the next byte of the keys that are pressed was read, or nothing is left
+-- between two moments of a run the next byte of the keys that are pressed was read, or nothing is left
 abbrev pub ReadsByte : Option ℕ → Option (List ℕ) → Option (List ℕ) → Type 0
 ReadsByte (Some byte) before now = Consumes before now (byte ∷ [])
 ReadsByte None before now = Consumes before now [] × IsAtEnd now
 
 -- ---- one key
 
--- a key was pressed, and what it asked was replied to so
+-- one key was pressed between two moments of a run: what it asked was replied to, and the session and the answer are
+-- what comes of that
 pub record IsPressed (key : Key) (answer : Answer) (before now : PlainSession) (files_before files_now : PlainFiles) : Type 0 where
   pub reply : Reply
   pub files : HaveReplied (request before key) reply files_before files_now
@@ -80,16 +82,16 @@ moment_of e taken wanted files counts = record {
   counts = counts;
 }
 
--- the state that is seen at a moment: the map is claimed that the files tell
+-- the state that is seen at one of two moments between which keys are pressed: the map is claimed that the files tell
 abbrev pub state_at : Moment → EditorState
 state_at m = record { session = m.session; files = m.files.stored }
 
--- the last of the screens of keys that are pressed, where the first is painted over this one
+-- the screen that is shown after pressing keys that showed these: the last of them, or where there is none this one
 abbrev pub last_shown : PlainGrid → List PlainGrid → PlainGrid
 last_shown shown [] = shown
 last_shown shown (next ∷ rest) = last_shown next rest
 
--- these keys were pressed, none ended the session, and all their screens were written
+-- between two moments these keys were pressed, none ended the session, and all their screens were written
 pub record AllShown (before now : Moment) (pressed : List PressedKey) : Type 0 where
   pub can_reply : HaveReplies (state_at before) pressed
   pub going : ends (state_at before) pressed ≡ false
@@ -101,8 +103,8 @@ pub record AllShown (before now : Moment) (pressed : List PressedKey) : Type 0 w
   pub faults : RoseBy (failures pressed) before.files.faults now.files.faults
   pub counts : CountsFor (bills (state_at before) pressed) (shots (state_at before) pressed) before.counts now.counts
 
--- these keys were pressed up to a last one: none before it ended the session, all screens before its
--- own were written, and of its own so much that `count` bytes were written in all
+-- what pressing these keys did, up to a last one, between two moments of a run: none before it ended the session, all
+-- screens before its own were written, and of its own so much that `count` bytes were written in all
 pub record UpToLast (before now : Moment) (earlier : List PressedKey) (last : PressedKey) (count : ℕ)
     : Type 0 where
   pub can_reply : HaveReplies (state_at before) (earlier ++ last ∷ [])
@@ -123,7 +125,7 @@ pub record KeysShown (keys : List Key) (before now : Moment) : Type 0 where
   pub shown : AllShown before now pressed
   pub wants : now.files.wants ≡ before.files.wants
 
--- these keys were pressed up to one that ended the session
+-- between two moments of a run these keys were pressed up to one that ended the session
 pub record KeysQuit (keys : List Key) (before now : Moment) : Type 0 where
   pub earlier : List PressedKey
   pub last : PressedKey
@@ -133,7 +135,7 @@ pub record KeysQuit (keys : List Key) (before now : Moment) : Type 0 where
   pub quit : ends (state_at before) (earlier ++ last ∷ []) ≡ true
   pub all : length (painted_over before.shown (grids (state_at before) (earlier ++ last ∷ []))) ≤ count
 
--- these keys were pressed up to one a screen of which was cut short
+-- these keys were pressed, between two moments of a run, up to one a screen of which was cut short
 pub record KeysCut (keys : List Key) (before now : Moment) : Type 0 where
   pub earlier : List PressedKey
   pub last : PressedKey

@@ -97,7 +97,7 @@ cells_of item = cells_in item.size
 abbrev pub cells : List Declared → ℕ
 cells items = sum_by cells_of items
 
--- the declared item of the name, if one of these has it
+-- the item of the name among those that declarations of a program say, if one has it
 abbrev pub item_named : List ℕ → List Declared → Option Declared
 item_named name items = find (λ item. bytes_eq name item.name) items
 
@@ -201,7 +201,7 @@ kind_of_type ItemType.Fixed = Kind.Fixed
 kind_of_type ItemType.Bit = Kind.Bit
 kind_of_type (ItemType.Text n) = Kind.Text
 
--- the kind of a declared item, if that is a scalar
+-- the kind that the declaration of an item says, if the item is a scalar
 abbrev pub scalar_kind : Declared → Option Kind
 scalar_kind item = if item.size == 0 then Some (kind_of_type item.ty) else None
 

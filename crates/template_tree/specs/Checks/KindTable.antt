@@ -50,8 +50,8 @@ infix_gives InfixOp.Minus = Kind.Fixed
 infix_gives InfixOp.Times = Kind.Fixed
 infix_gives InfixOp.Divide = Kind.Fixed
 
--- a row of the table of built-in functions: the kinds of the arguments that one takes, the kind of one more that it
--- perhaps takes, and the kind that it gives
+-- a row of the table of what built-in functions take and give: the kinds of the arguments that one takes, the kind of
+-- one more that it perhaps takes, and the kind that it gives
 pub record PlainBuiltinRow : Type 0 where
   pub takes : List Kind
   pub perhaps : Option Kind

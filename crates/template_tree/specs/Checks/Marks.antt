@@ -23,7 +23,8 @@ declared_before Forest.nil slot = []
 declared_before (Forest.cons label inner rest) slot =
     if label.slot == slot then [] else declares label ++ declared_before rest slot
 
--- the type that the declaration in the slot gives to its names, as their verdicts ask, where it is one of these nodes
+-- the type that the declaration in the slot gives to its names, as the verdict of each phrase of a program asks, where
+-- it is one of these nodes
 abbrev pub type_in : Forest → (slot : ℕ) → Option ItemType
 type_in Forest.nil slot = None
 type_in (Forest.cons label inner rest) slot =
@@ -49,7 +50,7 @@ surroundings program procedure slot =
 
 -- ---- the verdict of each phrase
 
--- a list of places of phrases, each with its verdict
+-- a list of phrases of a program, each by its place and with its verdict
 abbrev pub VerdictList : Type 0
 VerdictList = List (PhraseAt × Option MarkKind)
 
@@ -74,7 +75,7 @@ procedure_verdicts program (Forest.cons label inner rest) =
     node_verdicts program record { label = label; inner = inner } (Forest.cons label inner Forest.nil)
     ++ procedure_verdicts program rest
 
--- a map of verdicts by the places of their phrases
+-- a map of the verdict of each phrase, by the place of the phrase
 abbrev pub VerdictMap : Type 0
 VerdictMap = FinMap phrase_cmp (Option MarkKind)
 

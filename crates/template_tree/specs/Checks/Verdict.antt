@@ -59,13 +59,14 @@ array_kind items name = then_found (item_found items name) cell_found
 abbrev pub of_kind : Kind → Kind → Result Kind MarkKind
 of_kind kind found = if same_kind kind found then Ok found else Err MarkKind.TypeMismatch
 
--- whether the kinds found left and right of an infix operator fit, where it takes two of this kind, or two of any one
--- kind
+-- whether no offence is found in the kinds left and right of an infix operator, which takes two of this kind, or two of
+-- any one kind
 abbrev pub is_pair : Option Kind → Kind → Kind → Bool
 is_pair None left right = same_kind left right
 is_pair (Some kind) left right = same_kind kind left && same_kind kind right
 
--- the kind found for an infix operator between operands of two kinds, or a mismatch of types
+-- what a verdict finds of an infix operator between operands of two kinds: its kind, or the offence of a mismatch of
+-- types
 abbrev pub infix_found : InfixOp → Kind → Kind → Result Kind MarkKind
 infix_found op left right =
     if is_pair (infix_takes op) left right then Ok (infix_gives op) else Err MarkKind.TypeMismatch
@@ -75,7 +76,8 @@ abbrev pub is_count : ℕ → Option Kind → ℕ → Bool
 is_count taken None count = count == taken
 is_count taken (Some kind) count = (count == taken) || (count == taken + 1)
 
--- whether the arguments that were found have the kinds that are taken, one by one, as far as there are both
+-- whether arguments with the kinds found in them are no offence where these kinds are taken, one by one, as far as
+-- there are both
 abbrev pub fit : List Kind → List Kind → Bool
 fit [] kinds = true
 fit (kind ∷ taken) [] = true

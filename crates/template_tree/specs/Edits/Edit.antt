@@ -38,39 +38,41 @@ edit_slot slot change (Forest.cons label inner rest) =
 abbrev pub with_items : PlainTree → Forest → ℕ → PlainTree
 with_items tree items drawn = record { items = items; spare = tree.spare; drawn = drawn; live = count items }
 
--- nodes as an edit brings them in: nothing in them is elided
+-- nodes as an edit at a slot of a tree puts them there: nothing in them is elided
 abbrev pub whole : Forest → Forest
 whole Forest.nil = Forest.nil
 whole (Forest.cons label inner rest) = Forest.cons (record label { elided = false }) (whole inner) (whole rest)
 
--- a node as it comes into a slot: its inner nodes take the next slots in listing order, and nothing in it is elided
+-- a node as an edit at a slot puts it there: its inner nodes take the next slots in listing order, and nothing in it is
+-- elided
 abbrev pub node_in_slot : ℕ → ℕ → PlainNode → PlainNode
 node_in_slot slot next node =
     record { label = record node.label { slot = slot; elided = false }; inner = with_slots_from next (whole node.inner) }
 
--- what an item gives way to where a hole is added: the item, with a hole of its sort, in the slot, on this side of it
+-- what an item of a tree gives way to in the edit that adds a hole: the item, with a hole of its sort, in the slot, on
+-- this side of it
 abbrev pub with_hole : ℕ → Side → PlainNode → List PlainNode
 with_hole slot Side.Before item = hole_list slot (hole_of (sort_of item.label.kind)) ++ item ∷ []
 with_hole slot Side.After item = item ∷ hole_list slot (hole_of (sort_of item.label.kind))
 
--- the tree after an edit that put the node in place of what stood in the slot
+-- the tree after an edit at a slot, which put the node in place of what stood there
 abbrev pub Put : PlainTree → ℕ → PlainNode → PlainTree
 Put tree slot node =
     with_items tree (edit_slot slot (λ _. node_in_slot slot tree.drawn node ∷ []) tree.items) (tree.drawn + count node.inner)
 
--- the tree after an edit that added a hole beside the item in the slot
+-- the tree after an edit at a slot, which added a hole beside the item there
 abbrev pub Add : PlainTree → ℕ → Side → PlainTree
 Add tree slot side = with_items tree (edit_slot slot (with_hole tree.drawn side) tree.items) (tree.drawn + 1)
 
--- the tree after an edit that dropped the item in the slot
+-- the tree after an edit at a slot, which dropped the item there
 abbrev pub Drop : PlainTree → ℕ → PlainTree
 Drop tree slot = with_items tree (edit_slot slot (λ _. []) tree.items) tree.drawn
 
--- the tree after an edit that set a part of the node in the slot to this
+-- the tree after an edit at a slot, which set a part of the node there to this
 abbrev pub Part : PlainTree → ℕ → ℕ → Option PlainPhrase → PlainTree
 Part tree slot part place = with_items tree (edit_slot slot (λ node. with_part part place node ∷ []) tree.items) tree.drawn
 
--- the slot of main, the procedure or the procedure hole in which the slot of an edit stands
+-- for an edit at a slot of a tree: the slot of main, the procedure or the procedure hole in which that stands
 abbrev pub procedure_of : Forest → ℕ → Option ℕ
 procedure_of items slot =
     option_map (λ item. item.label.slot) (find (λ item. nat_lt 0 (times slot (forest (item ∷ [])))) (nodes items))

@@ -18,8 +18,8 @@ use Rattle.template_tree.specs.Edits.Hole.{hole_of, hole_left, is_hole, lone}
 use Rattle.template_tree.specs.Edits.TreeEdit.{TreeEdit, tree_after, what_of, changed_slot}
 use Rattle.template_tree.specs.Edits.Receipt.{PlainReceipt, undone, CanUndo}
 
--- the edit at the node in the slot made one tree of the other; the receipt names it and undoes it, with the node that the
--- edit gave out, if it gave one
+-- an edit at the node in the slot that was made is answered so: it made one tree of the other, and the receipt names it
+-- and undoes it, with the node that the edit gave out, if it gave one
 pub record IsEdit (edit : TreeEdit) (slot : ℕ) (before after : PlainTree) (receipt : PlainReceipt) (back : Option PlainNode) : Type 0 where
   pub became : roomless_tree after ≡ roomless_tree (tree_after edit before slot)
   pub tree : IsTree after
@@ -78,7 +78,8 @@ TakesAtStop part place node = (part < part_stops node.label.kind) × Takes (part
 abbrev pub MayTake : PlainNode → Type 0
 MayTake node = IsSome (hole_left node.label.kind)
 
--- the node that by the answer stands where a node of the kind was taken out: a hole
+-- what the answer to an edit that takes out a node of the kind says of the tree: the node that then stands there, a
+-- hole
 abbrev pub hole_in_place : NodeKind → PlainNode
 hole_in_place kind = lone 0 (unwrap_or (hole_left kind) kind)
 
@@ -87,7 +88,7 @@ pub record TakesOut (node : PlainNode) (before after : PlainTree) (receipt : Pla
   pub may_take : MayTake node
   pub is_edit : IsEdit (TreeEdit.put (hole_in_place node.label.kind)) node.label.slot before after receipt (Some node)
 
--- a hole may be added beside this node: the node at the path is an item of a list
+-- the edit that adds a hole may be made beside this node: the node at the path is an item of a list
 abbrev pub IsListItem : Forest → List ℕ → PlainNode → Type 0
 IsListItem items path node = IsTrue (is_listed (sort_of node.label.kind) (sections_at program_sections items path))
 

@@ -7,7 +7,7 @@ use Rattle.plcs_grammar.specs.Template.{PlainSection, row_of}
 use Rattle.template_tree.specs.Programs.PlainTree.{Forest, nodes}
 use Rattle.template_tree.specs.Listings.Section.{same_sort}
 
--- whether a section of a row, by its amount, is a list of items
+-- whether the items of a section stand in a list, and not one alone, by the amount of the section
 abbrev pub is_list : Amount → Bool
 is_list Amount.One = false
 is_list Amount.Many = true

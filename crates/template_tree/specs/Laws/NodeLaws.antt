@@ -5,7 +5,7 @@ use Rattle.template_tree.specs.Programs.PlainTree.{Forest, PlainNode, nodes}
 use Rattle.template_tree.specs.Programs.Program.{AreNodes, IsSubtree}
 use Rattle.template_tree.specs.Programs.Slots.{count}
 
--- there are no more items than nodes
+-- a forest has no more items than nodes
 abbrev pub ItemsAreFew : Type 0
 ItemsAreFew = (items : Forest) → length (nodes items) ≤ count items
 

@@ -19,7 +19,7 @@ Bare Forest.nil = Forest.nil
 Bare (Forest.cons label inner rest) =
     Forest.cons (record label { slot = 0; elided = false; spare = 0 }) (Bare inner) (Bare rest)
 
--- the nodes are a program, and the text is its listing
+-- the text is the listing of a program, which the nodes are
 pub record Spells (items : Forest) (x : List ℕ) : Type 0 where
   pub program : IsProgram items
   pub listed : x ≡ Listing items
@@ -30,7 +30,7 @@ abbrev pub split_at_ends : (front : List ℕ) → List ℕ → List (List ℕ)
 split_at_ends front [] = front ∷ []
 split_at_ends front (byte ∷ rest) = if byte == 10 then front ∷ split_at_ends [] rest else split_at_ends (front ++ (byte ∷ [])) rest
 
--- a program's listing, split at each byte 10, is its lines, and nothing behind the last line end
+-- what the listing of a program is, split at each byte 10: its lines, and nothing behind the last line end
 abbrev pub ListingSplitsInLines : Type 0
 ListingSplitsInLines =
     (items : Forest) → IsProgram items → split_at_ends [] (Listing items) ≡ map line_bytes (listing_lines items) ++ ([] ∷ [])

@@ -1,4 +1,4 @@
--- Places of a run: which there are, and where a run goes on.
+-- Places of a run: which there are, where a run begins that comes to a slot, and where it goes on.
 use Rattle.std.specs.Prelude.{ℕ, Bool, true, false, not, ◌&&◌, ◌||◌, nat_lt, if◌then◌else◌, ◌==◌, List, [], ◌∷◌, length, Option, Some, None, option_map, IsTrue}
 use Rattle.std.specs.Option.{option_or}
 use Rattle.plcs_grammar.specs.declared.node_kind.NodeKind.{NodeKind}

@@ -34,7 +34,7 @@ node_stop path = record { path = path; part = None }
 abbrev pub same_stop : PlainStop → PlainStop → Bool
 same_stop one other = bytes_eq one.path other.path && option_eq nat_eq one.part other.part
 
--- a visible stop, and the number of its line
+-- a visible stop of the cursor, and the number of the line on which it stands
 pub record VisibleStop : Type 0 where
   pub stop : PlainStop
   pub line : ℕ
@@ -70,7 +70,7 @@ stops_of node =
 abbrev pub Stops : Forest → List VisibleStop
 Stops items = flat_map stops_of (visible_nodes program_sections 0 0 items)
 
--- the first of the listed stops that is this one, if there is one
+-- the first of the listed stops of the cursor that is this one, with the line on which it stands, if there is one
 abbrev pub listed_stop : List VisibleStop → PlainStop → Option VisibleStop
 listed_stop stops stop = find (λ listed. same_stop listed.stop stop) stops
 

@@ -18,6 +18,6 @@ most_drawn_slots = MOST_DRAWN_SLOTS
 abbrev pub longest_phrase : ℕ
 longest_phrase = LONGEST_PHRASE
 
--- how many cells the effective items of one procedure may have together
+-- the limit of cells in a tree: how many the effective items of one procedure may have together
 abbrev pub most_cells : ℕ
 most_cells = MOST_CELLS

@@ -32,7 +32,7 @@ abbrev pub nodes : Forest → List PlainNode
 nodes nil = []
 nodes (cons label inner rest) = record { label = label; inner = inner } ∷ nodes rest
 
--- a list of nodes as a forest
+-- a list of nodes as plain data, made a forest
 abbrev pub forest : List PlainNode → Forest
 forest [] = nil
 forest (node ∷ rest) = cons node.label node.inner (forest rest)

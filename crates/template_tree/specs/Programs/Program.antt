@@ -13,13 +13,14 @@ use Rattle.plcs_grammar.specs.Template.{PlainSegment, PlainSection, row_of, prog
 use Rattle.template_tree.specs.Programs.Limit.{longest_phrase}
 use Rattle.template_tree.specs.Programs.PlainTree.{Label, Forest, PlainNode}
 
--- the categories that the line of a row asks for in its parts, one after the other
+-- the categories of the parts that a node of a program has, as the line of its row asks for them, one after the other
 abbrev pub parts_of : List PlainSegment → List Category
 parts_of [] = []
 parts_of (PlainSegment.words bytes ∷ segments) = parts_of segments
 parts_of (PlainSegment.part category ∷ segments) = category ∷ parts_of segments
 
--- the sort that the row of a kind gives to its nodes: that of main, procedures, declarations or statements
+-- the sort that nodes of a kind have in a program, by the kind's row: that of main, procedures, declarations or
+-- statements
 abbrev pub sort_of : NodeKind → Sort
 sort_of kind = (row_of kind).sort
 
@@ -28,13 +29,13 @@ abbrev pub sorts : Forest → List Sort
 sorts Forest.nil = []
 sorts (Forest.cons label inner rest) = sort_of label.kind ∷ sorts rest
 
--- a phrase of the category that may stand in a part of a program: it is well formed, and its canonical text not too
--- long
+-- which plain data a part of a program holds as a phrase of the category: one that is well formed, and whose canonical
+-- text isn't too long
 pub record IsPartPhrase (category : Category) (phrase : PlainPhrase) : Type 0 where
   pub well_formed : IsWellFormed category phrase
   pub short : length (Canon phrase) ≤ longest_phrase
 
--- whether in a program a part of the category may be empty: an assignment never is
+-- whether plain data in which a part of the category is empty may be a program: an assignment never is empty
 abbrev pub may_be_empty : Category → Bool
 may_be_empty Assignment = false
 may_be_empty Condition = true
@@ -49,7 +50,7 @@ may_be_empty NameList = true
 may_be_empty Length = true
 may_be_empty CommentText = true
 
--- what a part of the category may hold in a program: a phrase, or nothing where it may be empty
+-- what plain data that are a program may hold in a part of the category: a phrase, or nothing where it may be empty
 abbrev pub IsPart : Category → Option PlainPhrase → Type 0
 IsPart category None = IsTrue (may_be_empty category)
 IsPart category (Some phrase) = IsPartPhrase category phrase

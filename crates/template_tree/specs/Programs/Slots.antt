@@ -27,7 +27,7 @@ abbrev pub AllBelow : ℕ → Forest → Type 0
 AllBelow number Forest.nil = Unit {0}
 AllBelow number (Forest.cons label inner rest) = (label.slot < number) × AllBelow number inner × AllBelow number rest
 
--- the nodes with slots from a number on, drawn in listing order
+-- the nodes with other slots, which are drawn in listing order from a number on
 abbrev pub with_slots_from : ℕ → Forest → Forest
 with_slots_from first Forest.nil = Forest.nil
 with_slots_from first (Forest.cons label inner rest) =

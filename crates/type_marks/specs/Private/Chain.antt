@@ -23,7 +23,8 @@ chain_ended (Some link) later gives found = with_later later gives (both_found f
 abbrev pub chain_end : Chain → Result Kind MarkKind → Result Kind MarkKind
 chain_end chain found = chain_ended chain.first chain.later chain.gives found
 
--- the other chain has an operator before those of the one
+-- what is found in the other chain is what is found in the one behind one more operator, which stands before those of
+-- that
 abbrev pub EndsBefore : Chain → InfixOp → Result Kind MarkKind → Chain → Type 0
 EndsBefore one op right other =
     (found : Result Kind MarkKind) → chain_end other found ≡ chain_end one (both_found found right (infix_found op))

@@ -39,11 +39,12 @@ abbrev pub AreDeclaredIn : (inner : Forest) → (slot : ℕ) → List Item → T
 AreDeclaredIn inner slot items =
     (rest : List Declared) × (all_declared inner ≡ declared_before inner slot ++ (with_type (type_in inner slot) items ++ rest))
 
--- a declared list stands in the declaration in the slot, if that is one of the nodes
+-- where the phrase is a declared list, its items stand among the declared items of a procedure as those of the
+-- declaration in the slot, if that is one of the nodes
 abbrev pub IsListIn : (inner : Forest) → (slot : ℕ) → PlainPhrase → Type 0
 IsListIn inner slot phrase = (items : List Item) → phrase ≡ PlainPhrase.declared_list items → AreDeclaredIn inner slot items
 
--- the table has the items of the procedure that have the names of these
+-- the table has, of the declared items of a procedure, those that have the names of these
 abbrev pub KnowsListed : PlainDecls → (procedure : PlainNode) → List Item → Type 0
 KnowsListed decls procedure items =
     (name : List ℕ) → list_any (bytes_eq name) (map (λ item. item.name) items) ≡ true

@@ -10,7 +10,7 @@ use Rattle.unparse_layout.specs.OwnedLine.{OwnedLine, first_line, owned_lines, p
 use Rattle.unparse_layout.specs.Private.PlainNodeLayout.{node_layouts}
 use Rattle.unparse_layout.specs.Private.Height.{height, one_if}
 
--- the lines of the screen that a node has behind its first one
+-- the lines of the screen that one node has behind its first one
 abbrev pub lines_below : ℕ → PlainNode → List OwnedLine
 lines_below level node =
     (if node.label.elided
@@ -18,7 +18,7 @@ lines_below level node =
     else owned_lines node.label.slot (level + 1) (row_of node.label.kind).sections node.inner)
     ++ table_line node.label.slot LineKind.Last level (row_of node.label.kind).last
 
--- the lines of the screen that a node has, without the line before it
+-- the lines of the screen that one node has, without the line before it
 abbrev pub node_lines : ℕ → PlainNode → List OwnedLine
 node_lines level node = first_line level node.label ∷ lines_below level node
 

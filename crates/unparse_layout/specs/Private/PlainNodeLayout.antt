@@ -25,12 +25,12 @@ abbrev pub bones : List PlainNodeLayout → PlainLayout
 bones [] = PlainLayout.nil
 bones (node_layout ∷ rest) = PlainLayout.cons node_layout.bone node_layout.inner (bones rest)
 
--- a list of nodes of a layout, made nodes in order and these a list again, is that list
+-- as plain data, a list of nodes of a layout, made nodes in order and these a list again, is that list
 pub node_layouts_bones : (items : List PlainNodeLayout) → node_layouts (bones items) ≡ items
 node_layouts_bones [] = refl
 node_layouts_bones (node_layout ∷ rest) = ap (λ items. node_layout ∷ items) (node_layouts_bones rest)
 
--- nodes of a layout in order, made a list and that nodes in order again, are those nodes
+-- as plain data, nodes of a layout in order, made a list and that nodes in order again, are those nodes
 pub bones_node_layouts : (items : PlainLayout) → bones (node_layouts items) ≡ items
 bones_node_layouts PlainLayout.nil = refl
 bones_node_layouts (PlainLayout.cons bone inner rest) = ap (λ items. PlainLayout.cons bone inner items) (bones_node_layouts rest)
