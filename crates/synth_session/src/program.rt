@@ -2,6 +2,7 @@
 ghost use Rattle.std.specs.Prelude.{◌≡◌, ◌≤◌, true, IfErr, IfOk, IfSome, IsSome, None, option_map};
 ghost use Rattle.plcs_base.specs.PlainCounts.{ChecksAtMost};
 ghost use Rattle.template_tree.specs.Edits.Elision.{with_toggled_at};
+ghost use Rattle.template_tree.specs.Edits.Receipt.{CanUndo, undone};
 ghost use Rattle.template_tree.specs.Programs.PlainTree.{roomless_node, roomless_tree};
 ghost use Rattle.template_tree.specs.Programs.Program.{IsSubtree};
 ghost use Rattle.template_tree.specs.Positions.Stop.{IsStop, plain_stop};
@@ -20,7 +21,7 @@ use crate::clip_commands::copy_phrase_at;
 use clip_store::Fragment;
 use decl_table::Decls;
 use plcs_base::{OutOfMemory, Work};
-use session_edit::{Edit, apply};
+use session_edit::{Applied, Edit, apply};
 use std::alloc::Global;
 use template_tree::{
     Change, Node, Path, Stop, Tree, TreeFault, checks_ignore_room_and_elision, room_is_not_shown,
@@ -50,6 +51,22 @@ pub struct Changed {
     pub stop: Stop,
     pub taken: Option<Node>,
     pub change: Change,
+}
+
+impl Changed {
+    /// What an edit of the program leaves that was applied.
+    fn by(applied: Applied) -> Changed
+        ensures stop { result.stop ≡ applied.stop }
+        ensures taken { result.taken ≡ applied.taken }
+        ensures change { result.change ≡ applied.receipt.change }
+    {
+        let change = applied.receipt.change();
+        Changed {
+            stop: applied.stop,
+            taken: applied.taken,
+            change,
+        }
+    }
 }
 
 /// What taking something out of the program leaves: where the cursor stands, and what was taken out.
@@ -99,17 +116,12 @@ impl<W: Work> Program<W> {
             (W.counts work.old) (W.counts work.new) }
     {
         let applied = apply(alloc, &mut self.tree, at, edit)?;
-        let change = applied.receipt.change();
         match self.renew(alloc, work) {
-            Ok(()) => Ok(Changed {
-                stop: applied.stop,
-                taken: applied.taken,
-                change,
-            }),
+            Ok(()) => Ok(Changed::by(applied)),
             Err(OutOfMemory) => {
                 layouts_ignore_room();
                 checks_ignore_room_and_elision();
-                self.tree.undo(applied.receipt, applied.taken);
+                undo(&mut self.tree, applied);
                 Err(TreeFault::OutOfMemory)
             }
         }
@@ -216,6 +228,16 @@ impl<W: Work> Program<W> {
         let _ = self.tree.elide(path);
         self.dependents.layout.elided(&self.tree, path);
     }
+}
+
+/// Gives back the program's tree before the edit that was applied to it.
+fn undo(tree: &mut Tree, applied: Applied)
+    requires tree { IsTree tree.old }
+    requires can_undo { CanUndo applied.receipt applied.taken tree.old }
+    ensures undone { roomless_tree tree.new ≡ undone applied.receipt applied.taken (roomless_tree tree.old) }
+    ensures tree { IsTree tree.new }
+{
+    tree.undo(applied.receipt, applied.taken);
 }
 
 impl<W: Work> Dependents<W> {

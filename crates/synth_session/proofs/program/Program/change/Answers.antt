@@ -8,6 +8,6 @@ returns-in-Err-clause-agrees c c' =
     record {
       tree = c'.undo.ensures.tree;
       dependents = rw c'.in-Err.ensures.same (dependents_stay c'.layouts_ignore_room.ensures c'.checks_ignore_room_and_elision.ensures.room
-          c'.args.self.now.dependents c'.args.self.now.tree c'.undo.new.self
+          c'.args.self.now.dependents c'.args.self.now.tree c'.undo.new.tree
           c'.requires.agrees.dependents (undone ∙ c'.in_ok-applied.ensures.undoes));
     }
