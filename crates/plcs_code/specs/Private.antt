@@ -1,7 +1,7 @@
 -- Words that private contracts alone cite: nobody has to believe them.
--- ---- how instructions and codes are told apart
+-- ---- how instructions, codes and their maps are told apart
 pub mod InstrCode
--- ---- code in memory
+-- ---- how maps of code are filled
 pub mod CodeMaps
 -- ---- code while it is laid
 pub mod LaidCode

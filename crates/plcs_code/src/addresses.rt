@@ -25,7 +25,7 @@ pub(crate) struct Addresses {
 impl Model for Addresses {
     ghost use Rattle.std.specs.FinMap.{from_entries};
     ghost use Rattle.plcs_code.specs.Gen.{AddressMap};
-    ghost use Rattle.plcs_code.specs.Private.CodeMaps.{address_map_code};
+    ghost use Rattle.plcs_code.specs.Private.InstrCode.{address_map_code};
 
     ghost Value = { AddressMap };
 

@@ -21,7 +21,7 @@ pub struct FlatCode<W> {
 
 impl<W> Model for FlatCode<W> {
     ghost use Rattle.plcs_code.specs.Gen.{PlainCode};
-    ghost use Rattle.plcs_code.specs.Private.CodeMaps.{plain_code_code};
+    ghost use Rattle.plcs_code.specs.Private.InstrCode.{plain_code_code};
 
     ghost Value = { PlainCode };
 

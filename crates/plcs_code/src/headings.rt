@@ -22,7 +22,7 @@ pub(crate) struct Headings {
 impl Model for Headings {
     ghost use Rattle.std.specs.FinMap.{from_entries};
     ghost use Rattle.plcs_code.specs.Gen.{EntryMap};
-    ghost use Rattle.plcs_code.specs.Private.CodeMaps.{entry_map_code};
+    ghost use Rattle.plcs_code.specs.Private.InstrCode.{entry_map_code};
 
     ghost Value = { EntryMap };
 

@@ -20,7 +20,7 @@ pub(crate) struct Spans {
 impl Model for Spans {
     ghost use Rattle.std.specs.FinMap.{from_entries};
     ghost use Rattle.plcs_code.specs.Gen.{SpanMap};
-    ghost use Rattle.plcs_code.specs.Private.CodeMaps.{span_map_code};
+    ghost use Rattle.plcs_code.specs.Private.InstrCode.{span_map_code};
 
     ghost Value = { SpanMap };
 

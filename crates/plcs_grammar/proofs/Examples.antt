@@ -8,7 +8,8 @@ use Rattle.plcs_grammar.specs.PlainPhrase.{PlainExpr, PlainExprs, PlainVarRef, P
 use Rattle.plcs_grammar.specs.declared.sign.Sign.{Sign}
 use Rattle.plcs_grammar.specs.Sign.{sign_bytes, infix_sign}
 use Rattle.plcs_grammar.specs.Token.{Token, IsToken, IsNumeral, LongestToken, quoted, bit_bytes, numeral_value}
-use Rattle.plcs_grammar.specs.Cuts.{Cuts, Piece, trimmed}
+use Rattle.plcs_grammar.specs.Cuts.{Cuts, Piece}
+use Rattle.plcs_grammar.specs.TrimmedText.{trimmed}
 use Rattle.plcs_grammar.specs.Level.{Level, in_parentheses}
 use Rattle.plcs_grammar.specs.Comment.{comment_syntax}
 use Rattle.plcs_grammar.specs.OpenedLevel.{phrase_opened_levels}

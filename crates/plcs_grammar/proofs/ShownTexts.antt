@@ -4,7 +4,8 @@ use Rattle.plcs_grammar.specs.declared.category.Category.{Category}
 use Rattle.plcs_grammar.specs.declared.category.Category.TheVariants.{Assignment, Condition, Expression, ExpressionList, VariableList, Variable, CallRef, DeclaredList, ProcedureName, NameList, Length, CommentText}
 use Rattle.plcs_grammar.specs.PlainPhrase.{PlainPhrase}
 use Rattle.plcs_grammar.specs.Placeholder.{placeholder}
-use Rattle.plcs_grammar.specs.Cuts.{tokens_of, trimmed}
+use Rattle.plcs_grammar.specs.Cuts.{tokens_of}
+use Rattle.plcs_grammar.specs.TrimmedText.{trimmed}
 use Rattle.plcs_grammar.specs.Comment.{IsCommentText}
 use Rattle.plcs_grammar.specs.Reads.{HasReading}
 use Rattle.plcs_grammar.specs.Canon.{Canon}

@@ -4,7 +4,8 @@ use Rattle.std.specs.List.{prefix_len}
 use Rattle.std.proofs.lemmas.Bool.{cond_both, eq-eqb}
 use Rattle.std.proofs.lemmas.List.{reverse-append, reverse-reverse, length-reverse, length-drop}
 use Rattle.plcs_base.specs.Byte.{is_blank}
-use Rattle.plcs_grammar.specs.Cuts.{blanks, trimmed, unblanked}
+use Rattle.plcs_grammar.specs.Cuts.{blanks, unblanked}
+use Rattle.plcs_grammar.specs.TrimmedText.{trimmed}
 
 -- no blank is left at the front of a text without its first blanks
 unblanked_first : (z rest : List ℕ) → ¬ (unblanked z ≡ 32 ∷ rest)

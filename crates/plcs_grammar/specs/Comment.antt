@@ -5,7 +5,7 @@ use Rattle.std.specs.List.{list_all, starts_with}
 use Rattle.plcs_base.specs.Byte.{is_printable}
 use Rattle.plcs_grammar.specs.declared.category.Category.TheVariants.{CommentText}
 use Rattle.plcs_grammar.specs.Placeholder.{placeholder}
-use Rattle.plcs_grammar.specs.Cuts.{trimmed}
+use Rattle.plcs_grammar.specs.TrimmedText.{trimmed}
 
 -- the bytes that would end the comment
 abbrev pub comment_end : List ℕ

@@ -1,5 +1,5 @@
 -- A whole text cut into tokens with their places.
-use Rattle.std.specs.Prelude.{◌≡◌, ◌≢◌, ℕ, ◌+◌, List, [], ◌∷◌, map, length, drop, reverse, Option, Some, None}
+use Rattle.std.specs.Prelude.{◌≡◌, ◌≢◌, ℕ, ◌+◌, List, [], ◌∷◌, map, length, drop, Option, Some, None}
 use Rattle.std.specs.List.{prefix_len}
 use Rattle.plcs_base.specs.Byte.{is_blank}
 use Rattle.plcs_grammar.specs.Token.{Token, LongestToken, NoToken}
@@ -21,10 +21,6 @@ blanks x = prefix_len is_blank x
 -- the text behind the blanks that it begins with, where the first of its pieces stands
 abbrev pub unblanked : List ℕ → List ℕ
 unblanked x = drop (blanks x) x
-
--- a whole text that isn't cut into tokens, without the blanks at both its ends, as a comment's is read
-abbrev pub trimmed : List ℕ → List ℕ
-trimmed x = reverse (unblanked (reverse (unblanked x)))
 
 -- the text x, whose first byte has this place, is cut into the pieces, each the longest token where it stands,
 -- up to its end or up to the place where no token can be made

@@ -7,6 +7,7 @@ pub mod Sign
 pub mod Builtin
 pub mod Token
 pub mod Cuts
+pub mod TrimmedText
 -- ---- which tokens are which phrase
 pub mod Level
 pub mod ListForm

@@ -4,7 +4,8 @@ use Rattle.std.specs.Prelude.{◌≡◌, ◌⊎◌, ℕ, List, Some, None}
 use Rattle.plcs_grammar.specs.declared.category.Category.{Category}
 use Rattle.plcs_grammar.specs.declared.category.Category.TheVariants.{CommentText}
 use Rattle.plcs_grammar.specs.PlainPhrase.{PlainPhrase}
-use Rattle.plcs_grammar.specs.Cuts.{Cuts, Piece, tokens_of, trimmed}
+use Rattle.plcs_grammar.specs.Cuts.{Cuts, Piece, tokens_of}
+use Rattle.plcs_grammar.specs.TrimmedText.{trimmed}
 use Rattle.plcs_grammar.specs.PhraseForm.{Form}
 use Rattle.plcs_grammar.specs.Comment.{IsCommentText}
 use Rattle.plcs_grammar.specs.Limit.{IsWithinLimits}

@@ -1,6 +1,7 @@
 //! Texts without the blanks at their ends.
 ghost use Rattle.std.specs.Prelude.{◌≡◌, ◌≤◌, length};
-ghost use Rattle.plcs_grammar.specs.Cuts.{blanks, trimmed};
+ghost use Rattle.plcs_grammar.specs.Cuts.{blanks};
+ghost use Rattle.plcs_grammar.specs.TrimmedText.{trimmed};
 
 /// The text without the blanks at both its ends.
 pub fn trimmed(text: &[u8]) -> &[u8]

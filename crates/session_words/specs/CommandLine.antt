@@ -2,7 +2,7 @@
 use Rattle.std.specs.Prelude.{ℕ, Bool, true, ◌==◌, List, [], ◌∷◌, take, drop, Option, None, Some, Err, if◌then◌else◌}
 use Rattle.std.specs.List.{prefix_len}
 use Rattle.plcs_base.specs.Byte.{is_blank, is_letter}
-use Rattle.plcs_grammar.specs.Cuts.{trimmed}
+use Rattle.plcs_grammar.specs.TrimmedText.{trimmed}
 use Rattle.plcs_grammar.specs.Token.{begins_with}
 use Rattle.session_words.specs.declared.command.CommandFault.TheVariants.{UnknownCommand}
 use Rattle.session_words.specs.PlainCommand.{PlainReading}

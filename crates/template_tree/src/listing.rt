@@ -4,7 +4,7 @@ ghost use Rattle.plcs_base.specs.Put.{PutsAll};
 ghost use Rattle.plcs_grammar.specs.Template.{plain_segment};
 ghost use Rattle.template_tree.specs.Programs.Limit.{deepest_path};
 ghost use Rattle.template_tree.specs.Listings.Line.{fixed_line, lines, part_text, parts_after, segment_text, segments_text};
-ghost use Rattle.template_tree.specs.Listings.Listing.{Listing, ListingSplitsInLines, bytes_of_lines};
+ghost use Rattle.template_tree.specs.Listings.Listing.{Listing, bytes_of_lines};
 ghost use Rattle.template_tree.specs.Programs.PlainPhrasePlace.{plain_phrase_place};
 ghost use Rattle.template_tree.specs.Programs.PlainTree.{forest};
 ghost use Rattle.template_tree.specs.Private.NodeLines.{node_lines};
@@ -17,7 +17,7 @@ use crate::phrase_place::PhrasePlace;
 use crate::sections_left::SectionsLeft;
 use crate::tree::Tree;
 use plcs_base::{ByteOut, put_bytes};
-use plcs_grammar::{Category, Segment, canonical_texts_show, program_sections, show};
+use plcs_grammar::{Category, Segment, program_sections, show};
 
 impl Tree {
     /// Puts its listing: each line with its line end, elided refinements too.
@@ -131,11 +131,4 @@ fn put_part<O: ByteOut>(category: Category, part: &PhrasePlace, out: &mut O)
         PhrasePlace::Empty => put_bytes(category.placeholder(), out),
         PhrasePlace::Filled(phrase) => show(phrase, out),
     }
-}
-
-/// What the listing of a tree's program is, split at each byte 10: its lines.
-pub fn listing_splits_in_lines()
-    ensures { ListingSplitsInLines }
-{
-    canonical_texts_show();
 }

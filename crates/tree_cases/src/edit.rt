@@ -6,10 +6,9 @@ ghost use Rattle.template_tree.specs.Programs.PlainTree.{roomless_tree};
 ghost use Rattle.template_tree.specs.Edits.Receipt.{CanUndo, NeedsNoRoom, undone};
 ghost use Rattle.template_tree.specs.Programs.Tree.{IsTree};
 
-use crate::tell::{tell_phrase, tell_place};
+use crate::tell::{tell_node, tell_phrase, tell_place};
 use crate::words::{At, CATEGORIES, SIDES, TEMPLATES, phrase};
 use case_script::{Told, meaning, number_of};
-use plcs_base::ByteOut;
 use plcs_grammar::{Category, Template};
 use std::alloc::Global;
 use template_tree::{Node, Path, PhrasePlace, Receipt, Side, Stop, Tree, TreeFault, copy_path};
@@ -259,19 +258,4 @@ pub(crate) fn tell_back(node: &Node, back: &mut Told) {
     back.text(", ");
     tell_node(node, back);
     back.text(" comes back");
-}
-
-/// Tells a node's kind, what stands in its parts, and which slots the nodes inside have.
-pub(crate) fn tell_node(node: &Node, told: &mut Told) {
-    told.value(&node.kind());
-    for part in 0..=255 {
-        let Some(place) = node.part(part) else {
-            break;
-        };
-        told.put(b' ');
-        tell_place(place, told);
-    }
-    if node.is_elided() {
-        told.text(", elided");
-    }
 }

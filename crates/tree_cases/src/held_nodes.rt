@@ -5,9 +5,9 @@ ghost use Rattle.clip_store.specs.PlainFragment.{IsFragment, plain_fragment, slo
 ghost use Rattle.template_tree.specs.Programs.Program.{IsSubtree};
 ghost use Rattle.template_tree.specs.Programs.Tree.{IsTree};
 
-use crate::edit::{tell_back, tell_node};
+use crate::edit::tell_back;
 use crate::edit_calls::tell_answer;
-use crate::tell::tell_change;
+use crate::tell::{tell_change, tell_node};
 use crate::tree_calls::Trees;
 use crate::words::{find, path};
 use case_script::{Told, number_of};

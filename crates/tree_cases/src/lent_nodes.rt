@@ -4,8 +4,7 @@ ghost use Rattle.template_tree.specs.Programs.Part.{IsPhrasePlace};
 ghost use Rattle.template_tree.specs.Programs.PlainPhrasePlace.{plain_phrase_place};
 ghost use Rattle.template_tree.specs.Programs.Tree.{IsTree};
 
-use crate::edit::tell_node;
-use crate::tell::tell_place;
+use crate::tell::{tell_node, tell_place};
 use crate::tree_calls::tree_of;
 use crate::words::{find, phrase_of};
 use case_script::{Told, number_of};

@@ -1,8 +1,7 @@
 //! Cases that read a tree.
 ghost use Rattle.template_tree.specs.Programs.Tree.{IsTree};
 
-use crate::edit::tell_node;
-use crate::tell::tell_path;
+use crate::tell::{tell_node, tell_path};
 use crate::words::find;
 use case_script::{Told, number_of};
 use plcs_base::{ByteOut, Slot};

@@ -1,9 +1,9 @@
-//! How paths, stops, changes and phrases are told.
+//! How paths, stops, changes, phrases and nodes are told.
 
 use case_script::Told;
 use plcs_base::ByteOut;
 use plcs_grammar::{Phrase, show};
-use template_tree::{Change, PhrasePlace, Stop};
+use template_tree::{Change, Node, PhrasePlace, Stop};
 
 /// Tells a path: numbers with a comma between them; none are `-`.
 pub(crate) fn tell_path(numbers: &[u32], told: &mut Told) {
@@ -49,5 +49,20 @@ pub(crate) fn tell_place(place: &PhrasePlace, told: &mut Told) {
     match place {
         PhrasePlace::Empty => told.put(b'-'),
         PhrasePlace::Filled(phrase) => tell_phrase(phrase, told),
+    }
+}
+
+/// Tells a node's kind, what stands in its parts, and which slots the nodes inside have.
+pub(crate) fn tell_node(node: &Node, told: &mut Told) {
+    told.value(&node.kind());
+    for part in 0..=255 {
+        let Some(place) = node.part(part) else {
+            break;
+        };
+        told.put(b' ');
+        tell_place(place, told);
+    }
+    if node.is_elided() {
+        told.text(", elided");
     }
 }

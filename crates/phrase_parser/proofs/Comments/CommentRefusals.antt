@@ -6,7 +6,8 @@ use Rattle.std.proofs.lemmas.Bool.{not-false, and_parts, and_from, or_right, or_
 use Rattle.std.proofs.lemmas.Bool.Decides.{Decides-eqb}
 use Rattle.std.proofs.lemmas.Slice.Eq.{bytes_eq-Decides, starts_is}
 use Rattle.plcs_base.specs.Byte.{is_printable}
-use Rattle.plcs_grammar.specs.Cuts.{tokens_of, trimmed}
+use Rattle.plcs_grammar.specs.Cuts.{tokens_of}
+use Rattle.plcs_grammar.specs.TrimmedText.{trimmed}
 use Rattle.std.proofs.lemmas.List.Elements.{All-from_recursion}
 use Rattle.plcs_grammar.specs.declared.category.Category.TheVariants.{CommentText}
 use Rattle.plcs_grammar.specs.PlainPhrase.{PlainPhrase}

@@ -6,7 +6,8 @@ use Rattle.std.proofs.lemmas.List.{reverse-append, reverse-reverse, take-append-
 use Rattle.std.proofs.lemmas.List.Folds.{list_all-append}
 use Rattle.plcs_base.specs.Byte.{is_blank, is_printable}
 use Rattle.plcs_grammar.specs.Token.{begins_with}
-use Rattle.plcs_grammar.specs.Cuts.{blanks, trimmed, unblanked}
+use Rattle.plcs_grammar.specs.Cuts.{blanks, unblanked}
+use Rattle.plcs_grammar.specs.TrimmedText.{trimmed}
 use Rattle.plcs_grammar.specs.Comment.{IsCommentText}
 use Rattle.phrase_parser.proofs.Tokens.ByteRuns.{run_none, run_ends, drop_one_more}
 

@@ -7,7 +7,8 @@ use Rattle.plcs_grammar.specs.declared.category.Category.{Category}
 use Rattle.plcs_grammar.specs.declared.category.Category.TheVariants.{CommentText}
 use Rattle.plcs_grammar.specs.declared.phrase.Phrase.{Phrase}
 use Rattle.plcs_grammar.specs.PlainPhrase.{PlainPhrase, category_of, plain_phrase}
-use Rattle.plcs_grammar.specs.Cuts.{Piece, trimmed}
+use Rattle.plcs_grammar.specs.Cuts.{Piece}
+use Rattle.plcs_grammar.specs.TrimmedText.{trimmed}
 use Rattle.plcs_grammar.specs.Comment.{comment_syntax}
 use Rattle.plcs_grammar.specs.Limit.{IsWithinLimits}
 use Rattle.plcs_grammar.specs.OpenedLevel.{phrase_opened_levels}

@@ -1,33 +1,7 @@
--- What code in memory is seen as, and how its maps are filled.
-use Rattle.std.specs.Prelude.{if◌then◌else◌, List, [], ◌∷◌, refl}
-use Rattle.std.specs.Coded.{Coded, code_by, coded×, coded_ℕ, coded_list}
-use Rattle.std.specs.FinMap.{FinMap, code, contains_key, insert}
+-- How the maps of code in memory are filled.
+use Rattle.std.specs.Prelude.{if◌then◌else◌, List, [], ◌∷◌}
+use Rattle.std.specs.FinMap.{FinMap, contains_key, insert}
 use Rattle.std.specs.declared.cmp.Ordering.{Ordering}
-use Rattle.plcs_base.specs.contracts.place.Place as place_row
-use Rattle.plcs_code.specs.contracts.heading_entry.HeadingEntry as entry_row
-use Rattle.plcs_code.specs.Gen.{AddressMap, EntryMap, PlainCode, SpanMap}
-use Rattle.plcs_code.specs.PlainInstr.{PlainInstr}
-use Rattle.plcs_code.specs.Private.InstrCode.{block_code}
-
--- the code of the map of spans that code in memory has
-abbrev pub span_map_code : Coded SpanMap
-span_map_code = code coded_ℕ (coded× coded_ℕ coded_ℕ)
-
--- the code of the map of addresses that code in memory has
-abbrev pub address_map_code : Coded AddressMap
-address_map_code = code place_row.the_row.coded coded_ℕ
-
--- the code of the map of effective headings that code in memory has
-abbrev pub entry_map_code : Coded EntryMap
-entry_map_code = code (coded_list coded_ℕ) entry_row.the_row.coded
-
--- the code of what a program's code in memory is seen as
-abbrev pub plain_code_code : Coded PlainCode
-plain_code_code =
-    code_by (List PlainInstr × (AddressMap × (EntryMap × SpanMap)))
-    (coded× block_code (coded× address_map_code (coded× entry_map_code span_map_code)))
-    (λ whole. (whole.instrs, (whole.addresses, (whole.headings, whole.spans))))
-    (λ t. record { instrs = t.0; addresses = t.1.0; headings = t.1.1.0; spans = t.1.1.1 }) (λ _. refl)
 
 module _ {K X : Type 0} {R : K → K → Ordering} where
   -- a map of code with these entries before what it has

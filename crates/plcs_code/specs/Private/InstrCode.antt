@@ -1,8 +1,12 @@
--- How instructions and codes are told apart.
+-- How instructions, codes and their maps are told apart.
 use Rattle.std.specs.Prelude.{◌≡◌, ℕ, List, Option, Some, None, refl}
 use Rattle.std.specs.Coded.{Coded, code_by, coded×, coded_ℕ, coded_list, coded_option}
+use Rattle.std.specs.FinMap.{code}
+use Rattle.plcs_base.specs.contracts.place.Place as place_row
 use Rattle.plcs_code.specs.declared.instr.Instr.{Instr}
 use Rattle.plcs_code.specs.contracts.instr.Instr as instr_row
+use Rattle.plcs_code.specs.contracts.heading_entry.HeadingEntry as entry_row
+use Rattle.plcs_code.specs.Gen.{AddressMap, EntryMap, PlainCode, SpanMap}
 use Rattle.plcs_code.specs.PlainInstr.{PlainInstr, plain_instr}
 
 -- an instruction as one of the code, with its text beside it where it pushes one
@@ -81,3 +85,23 @@ instr_code =
 -- a block is told by its instructions
 abbrev pub block_code : Coded (List PlainInstr)
 block_code = coded_list instr_code
+
+-- the code of the map of spans that code in memory has
+abbrev pub span_map_code : Coded SpanMap
+span_map_code = code coded_ℕ (coded× coded_ℕ coded_ℕ)
+
+-- the code of the map of addresses that code in memory has
+abbrev pub address_map_code : Coded AddressMap
+address_map_code = code place_row.the_row.coded coded_ℕ
+
+-- the code of the map of effective headings that code in memory has
+abbrev pub entry_map_code : Coded EntryMap
+entry_map_code = code (coded_list coded_ℕ) entry_row.the_row.coded
+
+-- the code of what a program's code in memory is seen as
+abbrev pub plain_code_code : Coded PlainCode
+plain_code_code =
+    code_by (List PlainInstr × (AddressMap × (EntryMap × SpanMap)))
+    (coded× block_code (coded× address_map_code (coded× entry_map_code span_map_code)))
+    (λ whole. (whole.instrs, (whole.addresses, (whole.headings, whole.spans))))
+    (λ t. record { instrs = t.0; addresses = t.1.0; headings = t.1.1.0; spans = t.1.1.1 }) (λ _. refl)

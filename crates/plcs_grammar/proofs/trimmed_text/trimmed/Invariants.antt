@@ -1,5 +1,6 @@
 use Rattle.std.proofs.Common.{length, ◌≡◌, reverse}
-use Rattle.plcs_grammar.specs.Cuts.{trimmed, unblanked}
+use Rattle.plcs_grammar.specs.Cuts.{unblanked}
+use Rattle.plcs_grammar.specs.TrimmedText.{trimmed}
 use Rattle.plcs_grammar.proofs.trimmed_text.trimmed.Given as goal
 
 abbrev pub invariant-loop-rest : goal.invariant-loop-rest

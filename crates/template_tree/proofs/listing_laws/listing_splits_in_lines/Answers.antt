@@ -1,4 +1,4 @@
-use Rattle.template_tree.proofs.listing.listing_splits_in_lines.Goals as goal
+use Rattle.template_tree.proofs.listing_laws.listing_splits_in_lines.Goals as goal
 use Rattle.template_tree.proofs.Listings.PrintableLines.{listing_splits}
 
 pub returns : goal.returns

@@ -1,0 +1,11 @@
+//! The law of listings, a function that does nothing and whose contract states it.
+ghost use Rattle.template_tree.specs.Listings.Listing.{ListingSplitsInLines};
+
+use plcs_grammar::canonical_texts_show;
+
+/// What the listing of a tree's program is, split at each byte 10: its lines.
+pub fn listing_splits_in_lines()
+    ensures { ListingSplitsInLines }
+{
+    canonical_texts_show();
+}
