@@ -36,6 +36,6 @@ slots_held pairs = sum_by slots_of (values_of pairs)
 abbrev pub roomless_pairs : List Pair → List Pair
 roomless_pairs pairs = map (λ pair. (pair.0, roomless_fragment pair.1)) pairs
 
--- clips as plain data as they are kept: under each name its fragment, whole and without the room of its lists
+-- names with their fragments, in order, as clips keep them: each fragment whole and without the room of its lists
 abbrev pub kept_pairs : List Pair → List Pair
 kept_pairs pairs = map (λ pair. (pair.0, kept_fragment pair.1)) pairs

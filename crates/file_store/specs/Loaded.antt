@@ -25,8 +25,7 @@ abbrev pub BeginsListing : List ListedLine → Type 0
 BeginsListing rows =
     (items : Forest) × (more : List ListedLine) × IsProgram items × (listed_program items ≡ rows ++ more)
 
--- in how many of these lines a node begins; the bytes of a file are refused as the listing of a tree where such lines
--- are too many
+-- how many nodes begin in these lines of a file, whose bytes go wrong as the listing of a tree where they are too many
 abbrev pub opened : List ListedLine → ℕ
 opened [] = 0
 opened (row ∷ rows) = (if row.opens then 1 else 0) + opened rows

@@ -16,7 +16,7 @@ step_answered StepAnswer.Stepped now = PlainStepAnswer.stepped now
 step_answered (StepAnswer.Stopped reason) now = PlainStepAnswer.stopped reason
 step_answered StepAnswer.Ended now = PlainStepAnswer.ended
 
--- an act that the configuration before allows was done, and this is its record
+-- a step that the code made did an act that the configuration before allows, and this is its record
 abbrev pub DoesAct : (before now : PlainConfiguration) → (notes : Undo) → Type 0
 DoesAct before now notes =
     (act : Act) × (next : PlainPlace) × Allows act before × (now ≡ done act next before) × (notes ≡ undo_of act before)

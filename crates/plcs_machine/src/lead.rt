@@ -545,7 +545,7 @@ fn call<W: Work, C: CodeView<W>>(code: &C, frames: &Frames, name: &Name) -> Led
     Led::Enters(slot, address)
 }
 
-/// Leaves the newest frame, or ends the run in main.
+/// What the instruction does that leaves the newest frame; in main it ends the run.
 fn leave<W: Work, C: CodeView<W>>(code: &C, frames: &Frames) -> Led
     requires fine { is_fine (leave_lead (C.code code.now) frames.now) ≡ true }
     ensures { (values : List Value) (arguments : List Argument) → plain_led result values arguments

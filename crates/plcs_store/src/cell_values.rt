@@ -44,7 +44,7 @@ impl Frames {
         }
     }
 
-    /// The number of the newest frame, in which the cells of variables are looked for, counted from 0 at
+    /// The frame in which the cells are that variables stand for: the number of the newest, counted from 0 at
     /// main's; 0 also where there is none.
     fn newest_number(&self) -> usize
         ensures number { result ≡ newest self.now }

@@ -133,8 +133,8 @@ fn tell_node(
     }
 }
 
-/// The mark of the phrase at the place: as it is kept, as it is told, and as it is checked alone. `None`
-/// where these differ, or the check is not counted as one.
+/// The mark of one of the phrases that the program has: as it is kept, as it is told, and as it is checked
+/// alone. `None` where these differ, or the check is not counted as one.
 fn mark_of(
     tree: &Tree,
     decls: &Decls,

@@ -32,7 +32,7 @@ impl Screens {
         Screens::blank(alloc, FEWEST_ROWS, FEWEST_COLS)
     }
 
-    /// Two blank grids of this size, on which views are drawn later.
+    /// Two blank grids of this size. A case draws a view on one more, which comes behind them.
     fn blank(alloc: Global, rows: u16, cols: u16) -> Result<Screens, AllocError>
         requires least_rows { FEWEST_ROWS ≤ rows }
         requires most_rows { rows ≤ MOST_ROWS }

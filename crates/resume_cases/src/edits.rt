@@ -320,7 +320,7 @@ fn make_alone(alloc: Global, tree: &mut Tree, at: &Stop, edit: Edit) -> Result<C
     }
 }
 
-/// Tells what an edit did in which slot of which procedure.
+/// Tells what a change of the bench's program did in which slot of which procedure.
 fn tell_change(change: Change, told: &mut Told) {
     told.text("slot ");
     told.value(&change.slot.0);

@@ -45,7 +45,8 @@ fn copied_part(kept: &CopiedParts, part: u8) -> Option<&PhrasePlace>
     kept.as_slice().get(part as usize)
 }
 
-/// Whether the copied parts end before the one of this number.
+/// Whether the parts that are kept end before this number, so that none is left to compare with what there is
+/// now.
 fn is_last_part(kept: &CopiedParts, part: u8) -> bool
     ensures { IsTrue result ↔ (slice_get kept.now part ≡ None) }
 {

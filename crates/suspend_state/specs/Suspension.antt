@@ -17,7 +17,7 @@ paused state = record { state = state; reason = RunReason.Paused; kept = None }
 abbrev pub with_reason : RunReason → Run → Run
 with_reason reason run = record run { reason = reason }
 
--- a run of which nothing is kept yet fits the program
+-- a suspended run that keeps nothing of its program yet fits that program
 abbrev pub FitsUnlessKept : (program : Forest) → Run → Type 0
 FitsUnlessKept program run = run.kept ≡ None → Fits program (plain_configuration run.state)
 

@@ -227,7 +227,7 @@ fn screens_and_clips(alloc: Global, size: ScreenSize) -> Result<(Screens, Clips)
     Ok((screens, clips))
 }
 
-/// The new program with which a session is opened.
+/// The program that is edited in a session from its beginning: a new one.
 fn new_tree(alloc: Global) -> Result<Tree, OutOfMemory>
     ensures tree { IfOk result IsTree }
     ensures new { IfOk result (λ tree. roomless_tree tree ≡ new_tree) }

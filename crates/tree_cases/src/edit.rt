@@ -64,7 +64,7 @@ pub(crate) fn step_of(words: &[Vec<u8>]) -> Option<Step<'_>> {
     step_with(meaning(&EDITS, word.as_slice())?, rest)
 }
 
-/// The edit of the word, with the words behind it.
+/// The edit of a tree that the word names and the words behind it fill, as a case or a walk makes it.
 pub(crate) fn step_with(word: EditWord, words: &[Vec<u8>]) -> Option<Step<'_>> {
     let (at, rest) = words.split_first()?;
     Some((edit_of(word, rest)?, At::of(at.as_slice())?))

@@ -60,7 +60,8 @@ fn tell_path_of(tree: &Tree, slot: u32, told: &mut Told)
     told.put(b'\n');
 }
 
-/// All that a tree shows that is read: its listing, each node in its slot with its path, and how many slots are live.
+/// Tells all that a case reads of a tree: its listing, each node in its slot with its path, and how many slots
+/// are live.
 pub(crate) fn tell_tree(tree: &Tree, told: &mut Told)
     requires { IsTree tree.now }
 {

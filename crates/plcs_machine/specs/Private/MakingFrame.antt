@@ -18,7 +18,7 @@ abbrev pub argument_cell : ItemType → Argument → Option Cell
 argument_cell ty (Argument.Reference location) = Some (Cell.Ref location)
 argument_cell ty (Argument.Dummy value) = option_map Cell.Held (kept_value ty value)
 
--- variables with a parameter behind them for an argument
+-- the variables of a frame that the code makes for a call, with one more behind them: a parameter, for an argument
 abbrev pub with_argument : (name : List ℕ) → ItemType → Argument → Variables → Option Variables
 with_argument name ty argument variables =
     option_map (λ cell. variables ++ ((name, scalar_variable ty cell) ∷ [])) (argument_cell ty argument)

@@ -12,7 +12,7 @@ use Rattle.plcs_machine.specs.declared.led.Led.{Led}
 use Rattle.plcs_machine.specs.declared.step_act.StepAct.{StepAct}
 use Rattle.plcs_machine.specs.Lead.{Lead, jump_target, put_lead}
 
--- whether a number is small enough for an address
+-- whether a number is small enough for an address, which the code tells of an instruction
 abbrev pub is_address : ℕ → Bool
 is_address n = nat_lt n (2 ^ 32)
 
