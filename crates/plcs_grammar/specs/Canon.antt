@@ -90,7 +90,7 @@ Canon (PlainPhrase.name_list names) = joined (λ name. name) names
 Canon (PlainPhrase.greatest_length n) = decimal n
 Canon (PlainPhrase.comment bytes) = bytes
 
--- the greatest length of the canonical text of a phrase that is told; a longer one is told as this
+-- the greatest length that the canonical text of a phrase is told to have; a longer one is told to have it too
 abbrev pub longest_shown : ℕ
 longest_shown = 4294967295
 

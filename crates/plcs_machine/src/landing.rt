@@ -116,7 +116,7 @@ fn add_parameter(
     cells.add(name.copy(), parameter)
 }
 
-/// Adds a variable of the type and the size, whose cells aren't set.
+/// On the way from the entry of a procedure, adds a variable of the type and the size, whose cells aren't set.
 fn add_unset(
     alloc: Global,
     name: &Name,

@@ -165,7 +165,7 @@ fn compared(op: InfixOp, order: Ordering) -> Option<Value>
     }
 }
 
-/// Two texts joined, if that isn't too long.
+/// What the operator that joins two texts makes of them, if that isn't too long.
 fn joined(a: &TextValue, b: &TextValue) -> Result<Option<Value>, FaultKind>
     ensures { answer_outcome result ≡ text_value (a.now ++ b.now) }
 {

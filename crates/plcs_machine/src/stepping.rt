@@ -223,8 +223,8 @@ fn put<W: Work, C: CodeView<W>>(
     StepAnswer::Stopped(Reason::Fault(FaultKind::OutputLimit))
 }
 
-/// Writes so many newest operands, on a new line or not; `false` where the output would be too long, and then
-/// nothing is written.
+/// In one step of a run, writes so many newest operands, on a new line or not; `false` where the output would
+/// be too long, and then nothing is written.
 fn write(state: &mut RunState, skip: bool, count: u32) -> bool
     ensures fits { result ≡ nat_le (length (output_then state.old skip count)) most_output }
     ensures becomes { plain_configuration state.new

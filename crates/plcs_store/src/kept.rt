@@ -25,7 +25,8 @@ impl Model for Headings {
 }
 
 impl Headings {
-    /// The parts of these headings in order, as they are kept. It takes no memory.
+    /// What is kept of these headings of the program when it is edited: their parts, in order. It takes no
+    /// memory.
     pub fn from_vec(headings: Vec<CopiedParts>) -> Headings
         ensures { result ≡ headings.items }
     {

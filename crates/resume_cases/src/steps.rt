@@ -30,7 +30,8 @@ pub(crate) fn run(bench: &mut Bench, told: &mut Told) -> Option<()>
     Some(())
 }
 
-/// A new run of the program, without history, or `None` where memory runs out.
+/// A new run of the program, of which no step is made that could be taken back, or `None` where memory runs
+/// out.
 fn begun(alloc: Global, tree: &Tree) -> Option<Suspended>
     requires { IsTree tree.now }
     ensures { IfSome result (SuspendedIn tree.now) }
@@ -168,8 +169,8 @@ fn is_stepped(
     }
 }
 
-/// Tries a step of a run by the code of its program. What came of it, or `None` where memory runs out, and then
-/// nothing is changed.
+/// In a case that makes steps of a bench's run, tries one by the code of its program. What came of it, or
+/// `None` where memory runs out, and then nothing is changed.
 fn try_step(
     alloc: Global,
     tree: &Tree,

@@ -32,7 +32,7 @@ pub(crate) fn tell_state(decls: &Decls, state: &RunState, told: &mut Told) {
     }
 }
 
-/// Tells what was written, or of more than 200 bytes how many.
+/// Of what a run is in, tells what was written, or of more than 200 bytes how many.
 pub(crate) fn tell_written(output: &[u8], told: &mut Told) {
     if output.len() > MOST_SHOWN {
         told.value(&output.len());

@@ -1,4 +1,4 @@
-//! What sessions write, keep on their disks and end with.
+//! Rows of tests, a session each: what it writes, keeps on its disk and ends with.
 
 use crate::images::Images;
 use crate::playing::{DONE, NEVER, Played, Words};
@@ -96,7 +96,7 @@ struct Row {
     kept: Kept,
 }
 
-/// The disk that a session finds.
+/// The disk that the session of a row finds.
 #[derive(Clone, Copy)]
 enum Found {
     /// An empty one, whose call of this number fails.

@@ -108,7 +108,7 @@ impl Tree {
 }
 
 impl Tree {
-    /// Whether the node at the path may be dropped: it is a hole in a list of two or more.
+    /// Whether the node at the path may be dropped from its list: it is a hole in a list of two or more.
     fn is_spare_hole(&self, path: &Path) -> bool
         requires tree { IsTree self.now }
         ensures { IsTrue result

@@ -126,7 +126,7 @@ fn copied(alloc: Global, tree: &Tree, at: &Path) -> Result<Fragment, TreeFault>
     }
 }
 
-/// Holds a copy of what is held under a name under another one.
+/// Copies the node that is held beside the tree under a name, and holds the copy under another one.
 fn copy(alloc: Global, held: &mut Clips, name: &[u8], other: &[u8], told: &mut Told) -> Option<()> {
     let other = Name::read(other)?;
     let copy = copy_of(alloc, held, name)?;

@@ -37,7 +37,8 @@ pub record BothLoad (options : PlainOptions) (loads : PlainFirstLoads) (before n
   pub can : CanLoad options before.stored loads
   pub read : OnlyRead (load_failures loads) before now
 
--- memory ran out in a load: the map is as before, and the counts haven't fallen
+-- memory ran out in the loading of a file, before a session is opened: the map is as before, and the counts haven't
+-- fallen
 pub record LoadsNothing (before now : PlainFiles) : Type 0 where
   pub stored : now.stored ≡ before.stored
   pub faults : before.faults ≤ now.faults
