@@ -51,7 +51,7 @@ abbrev pub arguments_instrs : PlainExprs → List PlainInstr
 arguments_instrs PlainExprs.nil = []
 arguments_instrs (PlainExprs.cons a rest) = argument_instrs a ++ arguments_instrs rest
 
--- the code of the items in the phrase of a GET in a slot, of which the first has this number: each is a step of its own
+-- the code of the phrase of a GET in a slot, from the item of this number on: that of each item is a step of its own
 abbrev pub items_instrs : (slot k : ℕ) → List PlainVarRef → List PlainInstr
 items_instrs slot k [] = []
 items_instrs slot k (target ∷ targets) =

@@ -100,7 +100,7 @@ node_spans marks items start gap (Forest.cons label inner rest) =
     (length (option_to_list around.between)) inner
     ++ node_spans marks items (start + whole + gap) 0 rest)
 
--- whether nodes of the sort have code: declarations have none
+-- whether the code of a program has any of nodes of the sort: declarations have none
 abbrev pub sort_has_code : Sort → Bool
 sort_has_code Sort.Main = true
 sort_has_code Sort.Procedure = true

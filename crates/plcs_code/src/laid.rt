@@ -212,8 +212,8 @@ impl<W: Work> Laid<W> {
         })
     }
 
-    /// Lays, in the code of the program, what stands in a node's own code before the nodes inside it, and
-    /// answers how much that is.
+    /// Begins a node in the code that is laid node by node, with what stands in its own code before the nodes
+    /// inside it, and answers how much that is.
     fn lay_before<M: Marked>(
         &mut self,
         alloc: Global,

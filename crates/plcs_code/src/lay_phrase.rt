@@ -109,7 +109,7 @@ pub(crate) fn lay_items<W: Work, O: InstrOut<W>>(
     }
 }
 
-/// Lays the place of an item in the code of a GET's phrase, at which a step ends.
+/// Lays, in the code of a GET's phrase, the place of one of its items, at which a step ends.
 fn put_item_place<W: Work, O: InstrOut<W>>(slot: Slot, k: usize, out: &mut O, work: &mut W)
     ensures { LaysAll O.lays out.old (W.counts work.old) (PlainInstr.place (place_at slot.0 k) ∷ []) out.new
         (W.counts work.new) }

@@ -99,8 +99,8 @@ const TEMPLATES: [Template; 16] = [
 ];
 
 impl Template {
-    /// The template in whose row of the table this word is the command, behind a point, or `None` where it is
-    /// in none.
+    /// Looks a word up in the table of templates: the template in whose row it is the command, behind a point,
+    /// or `None` where it is in none.
     #[tactic(auto, unfolding(crate::specs::Template::template_of))]
     pub fn read(word: &[u8]) -> Option<Template>
         ensures { result ≡ template_of word.now }

@@ -13,7 +13,7 @@ use std::alloc::Global;
 use template_tree::Tree;
 use type_marks::Marks;
 
-/// The code of the program, under its own marks and by its own items, or `None` where memory runs out.
+/// The code of a program, made anew under its own marks and by its own items, or `None` where memory runs out.
 pub(crate) fn code_of(alloc: Global, tree: &Tree) -> Option<FlatCode<Counts>>
     requires { IsTree tree.now }
     ensures { IfSome result (IsTreesCode tree.now) }

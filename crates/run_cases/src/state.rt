@@ -51,7 +51,7 @@ pub(crate) fn tell_place(state: &RunState, told: &mut Told) {
     told.value(&state.frames.count().saturating_sub(1));
 }
 
-/// Tells a place.
+/// Tells at which place a run is.
 fn tell_at(place: Place, told: &mut Told) {
     told.text(", at ");
     told.value(&place.slot.0);

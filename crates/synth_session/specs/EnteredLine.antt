@@ -34,7 +34,7 @@ abbrev pub unbuilt_words : List (List ℕ)
 unbuilt_words =
     codes "run" ∷ codes "step" ∷ codes "resume" ∷ codes "back" ∷ codes "trace" ∷ codes "input" ∷ codes "code" ∷ []
 
--- whether a word is that of a command which isn't built yet
+-- whether the word of a typed line, which Enter takes, is that of a command which isn't built yet
 abbrev pub is_unbuilt_word : List ℕ → Bool
 is_unbuilt_word word = list_any (bytes_eq word) unbuilt_words
 

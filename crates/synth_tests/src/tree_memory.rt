@@ -220,8 +220,8 @@ fn phrase(alloc: Global, category: Category, text: &[u8]) -> Option<Phrase>
     Some(phrase)
 }
 
-/// Makes the edit of a tree that sets a part of the node at the path, and says why it is refused, if it is, as
-/// for want of memory.
+/// Sets a part of the node at the path, as a test of want of memory does, and says why that edit of the tree is
+/// refused, if it is.
 fn set(tree: &mut Tree, at: &Path, part: u8, place: PhrasePlace) -> Option<TreeFault>
     requires tree { IsTree tree.old }
     requires place { IsPhrasePlace (plain_phrase_place place) }

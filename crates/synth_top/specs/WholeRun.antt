@@ -84,7 +84,7 @@ ReadsInTurn options now bytes reads pressed =
     (reads ≡ length bytes)
     ⊎ (EndRead options now bytes reads × IsFront (completed bytes) (keys_pressed pressed))
 
--- what a run from this state of its opening screen has done between two moments
+-- what a whole run from this state of its opening screen has done between two moments
 pub record Course (options : PlainOptions) (first : EditorState) (before now : ToldStreams) : Type 0 where
   -- the bytes of keys, each taken once and in order, and at most one that a failed read lost
   pub bytes : List ℕ

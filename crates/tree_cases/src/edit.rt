@@ -261,7 +261,8 @@ pub(crate) fn tell_back(node: &Node, back: &mut Told) {
     back.text(" comes back");
 }
 
-/// Tells a node's kind, what stands in its parts, and which slots the nodes inside have.
+/// Tells a node that an edit of a tree took out, or another one: its kind, what stands in its parts, and which
+/// slots the nodes inside have.
 pub(crate) fn tell_node(node: &Node, told: &mut Told) {
     told.value(&node.kind());
     for part in 0..=255 {

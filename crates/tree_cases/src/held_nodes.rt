@@ -16,7 +16,7 @@ use plcs_base::{ByteOut, Name};
 use std::alloc::Global;
 use template_tree::{Change, Node, Path, Tree, TreeFault};
 
-/// A call on nodes that are held.
+/// A call on nodes that are held beside the tree: taken out, copied, looked at, or put in again.
 #[derive(Clone, Copy)]
 pub(crate) enum HeldCall {
     /// `take_as AT NAME`: takes the node out and holds it.

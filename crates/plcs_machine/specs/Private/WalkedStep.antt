@@ -33,11 +33,11 @@ nowhere address values arguments = None
 abbrev pub ending_answer : PlainCode → PlainConfiguration → (left : ℕ) → Outcome Lead → Option FetchedAnswer
 ending_answer code c left outcome = outcome_answer c nowhere (settle c.frames code.instrs left) outcome
 
--- the answer of a step that begins behind an address, where this is left of the input
+-- the answer of a step whose instructions are run from behind an address on, where this is left of the input
 abbrev pub run_on : PlainCode → (rest : List ℕ) → PlainConfiguration → (address : ℕ) → Option FetchedAnswer
 run_on code rest c address = run_from code rest c (length code.instrs) (address + 1) [] []
 
--- the answer of a step that begins behind a place, where this is left of the input
+-- the answer of a step whose instructions are run from behind a place on, where this is left of the input
 abbrev pub run_at : PlainCode → (rest : List ℕ) → PlainConfiguration → Place → Option FetchedAnswer
 run_at code rest c place = option_and_then (run_on code rest c) (get code.addresses place)
 
@@ -84,7 +84,7 @@ abbrev pub called_answer : PlainCode → RunState → (left address slot : ℕ) 
 called_answer code state left address slot =
     ending_answer code (plain_configuration state) left (Outcome.gives (Lead.enters slot address state.operands.arguments))
 
--- how many fetches are wanted beside that of the instruction
+-- of a step whose instructions are run, how many fetches are wanted beside that of the instruction at hand
 abbrev pub more_fetches : Option FetchedAnswer → ℕ
 more_fetches wanted = fetches_of wanted - 1
 
@@ -105,7 +105,7 @@ abbrev pub IsDone : (wanted : Option FetchedAnswer) → StepAnswer → (before n
 IsDone wanted answer before now noted notes =
     IsStepDone wanted answer (plain_configuration before) (plain_configuration now) noted notes
 
--- neither a state nor the record changes, but for operands
+-- a step whose instructions are run changes neither a state nor the record, but for operands
 abbrev pub IsStateKept : (before now : RunState) → (noted notes : Undo) → Type 0
 IsStateKept before now noted notes = NothingChanges (plain_configuration before) (plain_configuration now) noted notes
 

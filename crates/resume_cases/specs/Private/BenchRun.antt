@@ -29,7 +29,7 @@ pub record IsTreesCode (tree : PlainTree) (code : PlainCode) : Type 0 where
   pub items_tell : ScopeTells items tree.items
   pub generated : code ≡ Gen marks items tree.items
 
--- the room for operands is empty, as it is between steps
+-- a run stands between two steps, where its program may be edited: the room for operands is empty
 pub record IsBetweenSteps (state : RunState) : Type 0 where
   pub values : state.operands.values ≡ []
   pub arguments : state.operands.arguments ≡ []
