@@ -69,7 +69,7 @@ own_length marks items label = length (own_instrs marks items label [])
 abbrev pub length_around : MarkMap → ItemMap → Label → (lengths : List ℕ) → ℕ
 length_around marks items label lengths = own_length marks items label + sum lengths
 
--- how many instructions the code of each of the nodes in order has
+-- how many instructions each of the nodes in order has in code that is made afresh
 abbrev pub node_lengths : MarkMap → ItemMap → Forest → List ℕ
 node_lengths marks items Forest.nil = []
 node_lengths marks items (Forest.cons label inner rest) =

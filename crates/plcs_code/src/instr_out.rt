@@ -155,7 +155,7 @@ impl Tally {
         }
     }
 
-    /// How many instructions were counted, if there aren't too many.
+    /// How many instructions were laid into the tally, if there aren't too many.
     pub(crate) fn end(&self) -> Result<u32, OutOfMemory>
         ensures count { IfOk result (λ n. n ≡ self.now.count) }
         ensures short { IfOk result (λ n. n ≤ most_instrs) }

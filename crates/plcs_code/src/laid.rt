@@ -33,8 +33,8 @@ pub(crate) struct Laid<W> {
     pub(crate) spans: Vec<NodeSpan>,
 }
 
-/// The jumps of a node that are still to be laid in the code of the program, behind nodes inside it, each one
-/// instruction or none.
+/// In the code of a program that is laid node by node, the jumps of a node that are still to be laid, behind
+/// nodes inside it, each one instruction or none.
 #[derive(Drop)]
 struct JumpsBehind {
     /// Behind the code of the first of them.

@@ -91,7 +91,8 @@ fn put_call<W: Work, O: InstrOut<W>>(name: &Name, arguments: usize, out: &mut O,
     out.put(Instr::Call(name_of(name), arguments as u32), work);
 }
 
-/// Lays the code of the phrase of a GET in a slot: that of each of its items, which is a step of its own.
+/// Lays the code of a phrase, the list of variables of the GET in a slot: that of each of its items, which is a
+/// step of its own.
 pub(crate) fn lay_items<W: Work, O: InstrOut<W>>(
     alloc: Global,
     slot: Slot,

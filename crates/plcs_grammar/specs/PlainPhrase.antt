@@ -69,7 +69,7 @@ abbrev pub exprs_from : List PlainExpr → PlainExprs
 exprs_from [] = PlainExprs.nil
 exprs_from (t ∷ ts) = PlainExprs.cons t (exprs_from ts)
 
--- the plain form of a variable of this name, with its subscript already in plain form, if there is one
+-- in a phrase as plain data, the variable of this name with its subscript, already in plain form, if there is one
 abbrev pub reference_with : List ℕ → Option (Box PlainExpr Global) → PlainVarRef
 reference_with name None = PlainVarRef.simple name
 reference_with name (Some index) = PlainVarRef.subscripted name index.value

@@ -39,7 +39,7 @@ lead_answer c go settled (Lead.enters slot address arguments) =
 lead_answer c go settled (Lead.arrives place) = Some (at_once (PlainStepAnswer.stepped (done Act.pass place c)))
 lead_answer c go settled Lead.ends = Some (at_once PlainStepAnswer.ended)
 
--- the answer of a step behind an instruction that comes to this
+-- the answer of a step by code, whose instruction comes to this
 abbrev pub outcome_answer : PlainConfiguration → (go : ℕ → List Value → List Argument → Option FetchedAnswer) → (settled : ℕ → Option Making → Option (Fetched Landing)) → Outcome Lead → Option FetchedAnswer
 outcome_answer c go settled (Outcome.gives leads) = lead_answer c go settled leads
 outcome_answer c go settled (Outcome.stops reason) = Some (at_once (PlainStepAnswer.stopped reason))

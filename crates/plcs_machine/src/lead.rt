@@ -185,7 +185,8 @@ fn binary(operands: &mut Operands, next: u32, op: InfixOp) -> Led
     push_computed(operands, next, infix_value(op, &left, &right))
 }
 
-/// Pushes what a built-in function makes of so many newest operands.
+/// What the instruction of a built-in function does: it pushes what the function makes of so many newest
+/// operands.
 fn call_builtin(operands: &mut Operands, next: u32, function: Builtin, count: u32) -> Led
     requires fine { is_fine (builtin_lead next operands.old.arguments function count operands.old.values) ≡ true }
     ensures { plain_led result operands.new.values operands.new.arguments
@@ -242,7 +243,7 @@ fn load_at(frames: &Frames, operands: &mut Operands, next: u32, name: &Name) -> 
     load(frames, operands, next, name, Some(subscript))
 }
 
-/// Stores a value into a variable.
+/// What an instruction does that stores a value into a variable.
 fn store(frames: &Frames, next: u32, name: &Name, subscript: Option<i32>, value: Value) -> Led
     requires fine { is_fine (store_lead frames.now next name.now subscript value) ≡ true }
     ensures { (values : List Value) (arguments : List Argument) → plain_led result values arguments
@@ -316,7 +317,7 @@ fn refer_at(frames: &Frames, operands: &mut Operands, next: u32, name: &Name) ->
     refer(frames, operands, next, name, Some(subscript))
 }
 
-/// Reads an item of the input into a variable.
+/// What the instruction does that reads an item of the input into a variable.
 fn get(frames: &Frames, rest: &[u8], next: u32, name: &Name, subscript: Option<i32>) -> Doing
     requires short { length rest.now ≤ 4294967295 }
     requires fine { is_fine (get_lead frames.now rest.now next name.now subscript) ≡ true }

@@ -99,7 +99,7 @@ fn step_through<W: Work, C: CodeView<W>>(
     finish(alloc, code, walked, place, state, undo, work)
 }
 
-/// What is left of the input once so many bytes of it are taken.
+/// What one step of a run may read of the input: what is left once so many bytes of it are taken.
 fn rest_of(input: &[u8], taken: u32) -> &[u8]
     ensures rest { result.now ≡ drop taken input.now }
     ensures short { length result.now ≤ length input.now }
@@ -262,7 +262,7 @@ fn read<W: Work, C: CodeView<W>>(
     StepAnswer::Stepped
 }
 
-/// Does what an instruction leads to.
+/// Does what the last instruction of a step leads to, and answers the step.
 fn follow<W: Work, C: CodeView<W>>(
     alloc: Global,
     code: &C,

@@ -148,7 +148,7 @@ impl Output {
         }
     }
 
-    /// Puts a value into the output, or nothing where it doesn't fit.
+    /// Has a value come behind the bytes of the output, or nothing where it doesn't fit.
     fn put_value(&mut self, value: &Value) -> Result<(), OutputFull>
         ensures fits { IsOk result ↔ (length (self.old ++ value_bytes value.now) ≤ most_output) }
         ensures written { OnOk result (self.new ≡ self.old ++ value_bytes value.now) }

@@ -34,7 +34,7 @@ fn code_by(alloc: Global, tree: &Tree, decls: &Decls) -> Option<FlatCode<Counts>
     }
 }
 
-/// The code of the program, whose marks and table of declarations these are.
+/// The code of the program, made anew, whose marks and table of declarations these are.
 fn code_under(
     alloc: Global,
     tree: &Tree,

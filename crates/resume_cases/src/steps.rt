@@ -44,7 +44,7 @@ fn begun(alloc: Global, tree: &Tree) -> Option<Suspended>
     })
 }
 
-/// The state of a new run of the program, or `None` where memory runs out.
+/// The state of a run of the program before its first step, or `None` where memory runs out.
 fn first_state(alloc: Global, tree: &Tree) -> Option<RunState>
     requires { IsTree tree.now }
     ensures fits { IfSome result (λ state. Fits tree.now.items (plain_configuration state)) }

@@ -13,7 +13,7 @@ use Rattle.plcs_store.specs.Configuration.{PlainConfiguration, plain_configurati
 use Rattle.plcs_store.specs.Fits.{Fits}
 use Rattle.back_steps.specs.EarlierConfigurations.{CanGoBack, configurations_before}
 
--- the code is that of some program, by its own marks and effective items
+-- the code by which a case's run goes is that of some program, by the program's own marks and effective items
 pub record IsProgramCode (code : PlainCode) : Type 0 where
   pub tree : PlainTree
   pub marks : MarkMap

@@ -18,7 +18,7 @@ pub record CursorPosition : Type 0 where
   pub row : ℕ
   pub col : ℕ
 
--- the column of the cursor, or the last but one where it lies beyond
+-- the column in which the cursor stands on the screen, or the last but one where it lies beyond
 abbrev pub cut_col : ℕ → ℕ → ℕ
 cut_col cols col = min col (cols - 1)
 

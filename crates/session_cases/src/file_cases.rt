@@ -14,7 +14,7 @@ pub fn files(alloc: Global, scene: &mut Scene, fails: &[Vec<u8>]) -> Option<()> 
     Some(())
 }
 
-/// No files, of which the calls of these numbers fail.
+/// For a case of files: files that runs find, none yet, of which the calls of these numbers fail.
 pub fn failing_files(alloc: Global, fails: &[Vec<u8>]) -> Option<MemFiles> {
     Some(MemFiles::new(alloc, numbers_of(alloc, fails)?))
 }

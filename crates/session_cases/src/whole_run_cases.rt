@@ -72,7 +72,7 @@ pub fn fail(alloc: Global, scene: &mut Scene, kind: &[u8], number: &[u8]) -> Opt
 /// The words of what fails in a whole run.
 static KINDS: [(&[u8], Kind); 2] = [(b"read", Kind::Read), (b"write", Kind::Write)];
 
-/// What fails in a whole run: a read of keys or a write of a screen.
+/// What a case of whole runs has fail: a read of keys or a write of a screen.
 #[derive(Clone, Copy)]
 enum Kind {
     Read,

@@ -63,7 +63,7 @@ fn drop_hole(tree: &mut Tree, at: &Stop) -> Option<Applied>
     })
 }
 
-/// The sort of the node at the path, if there is one, by which the list of a dropped hole is told.
+/// The sort of the node at the path, if there is one, by which the list is told from which a hole is deleted.
 fn sort_at(tree: &Tree, path: &Path) -> Option<Sort>
     requires tree { IsTree tree.now }
     ensures { result ≡ option_map (λ node. sort_of node.label.kind) (node_at tree.now.items path.now.items) }

@@ -227,7 +227,8 @@ impl Notice {
     }
 }
 
-/// The row of a message that answers a key with a refusal, of which the words have no number behind them.
+/// The row of one of the messages that answer keys, one of a refusal, of which the words have no number behind
+/// them.
 fn row_of(number: u8, words: &'static [u8]) -> RefusalRow
     ensures number { result.number ≡ number }
     ensures words { result.words.now ≡ words.entry.now }

@@ -9,7 +9,7 @@ use Rattle.plcs_store.specs.Configuration.{plain_configuration}
 use Rattle.plcs_store.specs.Fits.{Fits}
 use Rattle.plcs_store.specs.Resume.{IsKeptOf}
 
--- a run in the state as it is made: paused, with nothing kept
+-- a run in the state as it is made: paused, as one that is suspended, with nothing kept of its program
 abbrev pub paused : RunState → Run
 paused state = record { state = state; reason = RunReason.Paused; kept = None }
 

@@ -127,7 +127,8 @@ pub record KeptNotOpened (status : KeptStatus) (before now : KeptTold) (same_out
   pub outside : same_outside
   pub same : now ≡ before
 
--- a kept session ended so: its journal couldn't be opened, or the editor ran over it
+-- what became of a session whose keys are kept, by its status: its journal couldn't be opened, or the editor ran over
+-- it
 abbrev pub KeptEnded : Option PlainTask → KeptStatus → KeptTold → KeptTold → Type 0 → Type 0 →
     Type 0 → Type 0
 KeptEnded task status before now same_outside after_reads after_fault =

@@ -187,8 +187,7 @@ const UNBUILT_WORDS: [&[u8]; 7] = [
     b"run", b"step", b"resume", b"back", b"trace", b"input", b"code",
 ];
 
-/// Whether a typed line that begins with a point is that of a command which isn't built yet, so that Enter
-/// refuses it.
+/// Whether Enter refuses the typed line, which begins with a point, since it is a command that isn't built yet.
 #[tactic(auto, unfolding(crate::specs::EnteredLine::is_unbuilt))]
 fn is_unbuilt(line: &[u8]) -> bool
     requires { IsTrue (begins_with_point line.now) }

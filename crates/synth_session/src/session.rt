@@ -105,7 +105,8 @@ impl<W: Work> Session<W> {
         Session::around(alloc, size, program, stop, input)
     }
 
-    /// A session around the program, with the cursor at the stop, and with this input.
+    /// A session in which this program is edited, with the cursor at the stop, and with this input of the
+    /// program.
     fn around(
         alloc: Global,
         size: ScreenSize,

@@ -120,7 +120,7 @@ module _ {options : PlainOptions} {first : EditorState} {before now : ToldStream
   abbrev pub AllWritten : Type 0
   AllWritten = length (written first course.pressed) ≤ course.count
 
-  -- a run lost no byte of its source
+  -- a whole run lost no byte of the keys that its source had
   abbrev pub NoneLost : Type 0
   NoneLost = course.lost ≡ []
 
@@ -222,7 +222,7 @@ module _ {options : PlainOptions} {first : EditorState} {before now : ToldStream
   wanted_bill wants_before wants_now (inl last) = bill state_after (record { key = last.wanted; reply = last.reply })
   wanted_bill wants_before wants_now (inr step) = 0
 
-  -- the bill of a key after those that a whole run pressed, by why the run stopped: of one that wanted memory, and else
+  -- by why a whole run stopped, the bill of the key after those that it pressed: of one that wanted memory, and else
   -- there is none
   abbrev pub last_bill : (wants_before wants_now : ℕ) (status : Status) → Stopped wants_before wants_now status → ℕ
   last_bill wants_before wants_now NoMemory (inl cut) = 0

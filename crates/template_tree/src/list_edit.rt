@@ -141,8 +141,7 @@ impl Tree {
         self.items.add_at(*k as usize, rest, side, node)
     }
 
-    /// Takes the hole that is dropped out of the list at the path, if one is there; the tree's counts
-    /// stay.
+    /// Drops the hole at the path from its list, if one is there, and gives it; the tree's counts stay.
     fn drop_item(&mut self, path: &Path) -> Option<Node>
         ensures taken { result ≡ node_at self.old.items path.now.items }
         ensures others { roomless_tree self.new ≡ with_edit (λ _. []) path.now.items (roomless_tree self.old) }

@@ -108,7 +108,7 @@ impl Node {
         self.parts.get(part as usize)
     }
 
-    /// What the node keeps of itself: whether it is a comment whose refinement is hidden.
+    /// Whether the node is a comment whose refinement is hidden; a node has this beside its parts.
     pub fn is_elided(&self) -> bool
         ensures { result ≡ self.now.label.elided }
     {

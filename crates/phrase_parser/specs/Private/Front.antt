@@ -34,7 +34,7 @@ front_of_word length x =
 abbrev pub word_front : List ℕ → Option Front
 word_front x = front_of_word (prefix_len is_name_byte x) x
 
--- the number that the first so many digits at the front of a text write, as it is kept
+-- the token at the front of a text that is a number of so many digits, with the number as it is kept
 abbrev pub number_kept : ℕ → List ℕ → Front
 number_kept length x = record { kind = kind.Number (min (numeral_value (take length x)) greatest_kept); length = length }
 

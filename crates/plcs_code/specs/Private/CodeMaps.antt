@@ -1,4 +1,5 @@
--- What code in memory is seen as, and how its maps are filled.
+-- What code in memory is seen as, how its maps of spans, addresses and headings are told apart, and how they are
+-- filled.
 use Rattle.std.specs.Prelude.{if◌then◌else◌, List, [], ◌∷◌, refl}
 use Rattle.std.specs.Coded.{Coded, code_by, coded×, coded_ℕ, coded_list}
 use Rattle.std.specs.FinMap.{FinMap, code, contains_key, insert}
@@ -9,15 +10,15 @@ use Rattle.plcs_code.specs.Gen.{AddressMap, EntryMap, PlainCode, SpanMap}
 use Rattle.plcs_code.specs.PlainInstr.{PlainInstr}
 use Rattle.plcs_code.specs.Private.InstrCode.{block_code}
 
--- the code of the map of spans that code in memory has
+-- how the maps of spans that code in memory has are told apart: by a code
 abbrev pub span_map_code : Coded SpanMap
 span_map_code = code coded_ℕ (coded× coded_ℕ coded_ℕ)
 
--- the code of the map of addresses that code in memory has
+-- how the maps of addresses that code in memory has are told apart: by a code
 abbrev pub address_map_code : Coded AddressMap
 address_map_code = code place_row.the_row.coded coded_ℕ
 
--- the code of the map of effective headings that code in memory has
+-- how the maps of effective headings that code in memory has are told apart: by a code
 abbrev pub entry_map_code : Coded EntryMap
 entry_map_code = code (coded_list coded_ℕ) entry_row.the_row.coded
 

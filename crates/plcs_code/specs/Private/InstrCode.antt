@@ -1,4 +1,4 @@
--- How instructions and codes are told apart.
+-- How instructions, and blocks of them, are told apart.
 use Rattle.std.specs.Prelude.{◌≡◌, ℕ, List, Option, Some, None, refl}
 use Rattle.std.specs.Coded.{Coded, code_by, coded×, coded_ℕ, coded_list, coded_option}
 use Rattle.plcs_code.specs.declared.instr.Instr.{Instr}

@@ -29,6 +29,6 @@ abbrev pub made_way : PlainCode → (fetches address : ℕ) → Variables → Li
 made_way code fetches address variables arguments frames =
     settle frames code.instrs fetches address (Some (making_of variables arguments))
 
--- it is so of the way for all frames for which there is one
+-- of the way to the first place of a frame that is made, this holds for all frames below it for which there is a way
 abbrev pub EachWay : (List Frame → Option (Fetched Landing)) → (Option (Fetched Landing) → Type 0) → Type 0
 EachWay ways P = (frames : List Frame) → IsSome (ways frames) → P (ways frames)

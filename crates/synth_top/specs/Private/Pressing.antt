@@ -61,8 +61,8 @@ pub record IsPressed (key : Key) (answer : Answer) (before now : PlainSession) (
 
 -- ---- some keys
 
--- what is seen of a run at a moment: its session, the screen that is shown, the bytes that the sink
--- took and its count of wants, the files, and what was counted
+-- what is seen of a run at a moment before or after some keys are pressed: its session, the screen that is shown, the
+-- bytes that the sink took and its count of wants, the files, and what was counted
 pub record Moment : Type 0 where
   pub session : PlainSession
   pub shown : PlainGrid

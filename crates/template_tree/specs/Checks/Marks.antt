@@ -68,7 +68,7 @@ node_verdicts program procedure (Forest.cons label inner rest) =
     part_verdicts (surroundings program procedure label.slot) label.slot 0 label.parts
     ++ (node_verdicts program procedure inner ++ node_verdicts program procedure rest)
 
--- the verdicts of the phrases of main and procedures of the program
+-- the verdict of each phrase of main and of procedures of the program
 abbrev pub procedure_verdicts : (program : Forest) → Forest → VerdictList
 procedure_verdicts program Forest.nil = []
 procedure_verdicts program (Forest.cons label inner rest) =

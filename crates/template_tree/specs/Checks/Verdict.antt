@@ -59,8 +59,8 @@ array_kind items name = then_found (item_found items name) cell_found
 abbrev pub of_kind : Kind → Kind → Result Kind MarkKind
 of_kind kind found = if same_kind kind found then Ok found else Err MarkKind.TypeMismatch
 
--- whether no offence is found in the kinds left and right of an infix operator, which takes two of this kind, or two of
--- any one kind
+-- whether the verdict of a phrase finds no offence in the kinds left and right of an infix operator, which takes two of
+-- this kind, or two of any one kind
 abbrev pub is_pair : Option Kind → Kind → Kind → Bool
 is_pair None left right = same_kind left right
 is_pair (Some kind) left right = same_kind kind left && same_kind kind right
