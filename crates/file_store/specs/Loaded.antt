@@ -89,12 +89,12 @@ abbrev pub Loaded : List ℕ → Result PlainTree FileRefusal → Type 0
 Loaded x (Ok tree) = IsListingOf x tree
 Loaded x (Err refusal) = RefusalSays x refusal
 
--- the program is what the bytes of a listing file are read as, unless memory ran out
+-- the bytes of a file are the listing of no other program than this, unless memory ran out
 abbrev pub ReadsOnly : Result PlainTree FileRefusal → Forest → Type 0
 ReadsOnly (Ok tree) items = Bare tree.items ≡ Bare items
 ReadsOnly (Err refusal) items = refusal ≡ FileRefusal.OutOfMemory
 
--- the bytes of a listing file are refused for this, unless memory ran out
+-- the bytes of a file go wrong as a listing for no other reason than this, unless memory ran out
 abbrev pub RefusesOnly : Result PlainTree FileRefusal → FileRefusal → Type 0
 RefusesOnly (Ok tree) refusal = ⊥
 RefusesOnly (Err own) refusal = (own ≡ refusal) ⊎ (own ≡ FileRefusal.OutOfMemory)

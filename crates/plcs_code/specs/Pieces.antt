@@ -25,7 +25,8 @@ abbrev pub has_empty : List (Option PlainPhrase) → Bool
 has_empty [] = false
 has_empty (place ∷ parts) = not (is_some place) || has_empty parts
 
--- whether one of the parts of the node in the slot is marked, of which the first has this number
+-- whether one of the parts of the node in the slot is marked, so that a piece stops a run; the first of them has this
+-- number
 abbrev pub has_marked_part : MarkMap → (slot part : ℕ) → List (Option PlainPhrase) → Bool
 has_marked_part marks slot part [] = false
 has_marked_part marks slot part (place ∷ parts) = is_some (get marks (phrase_at slot part)) || has_marked_part marks slot (part + 1) parts

@@ -49,7 +49,8 @@ address_at (negsuc n) = None
 abbrev pub jump_target : (next : ℕ) → ℤ → Option ℕ
 jump_target next d = address_at (pos next +ℤ d)
 
--- the address in the code of the place to which the instruction leads that leaves a procedure, if it has one
+-- where the instruction of the table leads that leaves a procedure: to the address in the code of this place, if it has
+-- one
 abbrev pub address_of : PlainCode → PlainPlace → Option ℕ
 address_of code place = get code.addresses (place_of place)
 

@@ -32,7 +32,8 @@ StepChanges StepAnswer.Stepped before now noted notes = (step_undone notes now �
 StepChanges (StepAnswer.Stopped reason) before now noted notes = NothingChanges before now noted notes
 StepChanges StepAnswer.Ended before now noted notes = NothingChanges before now noted notes
 
--- the answer that is wanted is a step that makes one frame more, as only a call does
+-- the answer that is wanted of a step that the code made is a configuration with one frame more, as only a call makes
+-- one
 abbrev pub MakesFrame : (wanted : Option FetchedAnswer) → (before : PlainConfiguration) → Type 0
 MakesFrame wanted before =
     (now : PlainConfiguration) × (result_of wanted ≡ Some (PlainStepAnswer.stepped now)) × (length now.frames ≡ length before.frames + 1)

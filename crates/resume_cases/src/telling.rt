@@ -1,4 +1,5 @@
-//! How runs are told: where they stand, their frames, what is in their cells, and what they wrote.
+//! How runs that stand still are told: why and where, how far they can be taken back, their frames, what is in
+//! their cells, and what they wrote.
 
 use crate::bench::Bench;
 use crate::suspended::Suspended;
@@ -99,7 +100,7 @@ fn tell_cell(cell: &Cell, told: &mut Told) {
     told.line("");
 }
 
-/// Tells a value: a number, whether a bit is on, or the bytes of a text.
+/// Tells the value in a cell of a run that stands still: a number, whether a bit is on, or the bytes of a text.
 fn put_value(value: &Value, told: &mut Told) {
     match value {
         Value::Fixed(number) => told.value(number),

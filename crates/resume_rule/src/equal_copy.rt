@@ -66,7 +66,7 @@ fn is_copied(place: &PhrasePlace, kept: &CopiedParts, part: u8) -> bool
     }
 }
 
-/// Whether the same phrase stands in both parts, or nothing in either.
+/// Whether what is kept of a part is as what stands in it now: the same phrase, or nothing.
 fn is_same_place(one: &PhrasePlace, other: &PhrasePlace) -> bool
     ensures { IsTrue result ↔ (plain_phrase_place one.now ≡ plain_phrase_place other.now) }
 {

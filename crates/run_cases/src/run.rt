@@ -108,7 +108,7 @@ fn new_state(alloc: Global, code: &FlatCode<Counts>, work: &mut Counts) -> Optio
     }
 }
 
-/// Steps of a run.
+/// The steps that were made of a new run of the program's code.
 #[derive(Clone, Copy)]
 struct Made {
     /// How many were made.

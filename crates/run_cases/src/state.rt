@@ -1,4 +1,5 @@
-//! What a run is in, as it is told.
+//! What a run is in, as it is told: how much of its input was taken, what was written, and its frames with their
+//! loops, variables and cells.
 
 use crate::value;
 use case_script::Told;
@@ -42,7 +43,8 @@ pub(crate) fn tell_written(output: &[u8], told: &mut Told) {
     }
 }
 
-/// Tells where the newest frame of a run stands, and the number of the frame, counted from 0 at main's.
+/// Of what a run is in, tells where its newest frame stands, and the number of the frame, counted from 0 at
+/// main's.
 pub(crate) fn tell_place(state: &RunState, told: &mut Told) {
     if let Some(place) = state.frames.place() {
         tell_at(place, told);

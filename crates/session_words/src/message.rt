@@ -122,7 +122,7 @@ struct RefusalRow {
 }
 
 impl Message {
-    /// The text of a message, its words with the number behind them, as the message row shows it.
+    /// The text of this message that answers a key, as the message row shows it.
     #[tactic(auto, unfolding(crate::specs::Message::message_text))]
     pub fn text(self) -> MessageText
         ensures { result ≡ message_text self }

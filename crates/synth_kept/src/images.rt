@@ -38,7 +38,7 @@ impl Images {
         Some(())
     }
 
-    /// Finds the images after one call more.
+    /// Finds the images that a crash of the session may leave after one call more.
     fn pass(&mut self, alloc: Global, call: &DiskCall) -> Option<()> {
         match call {
             DiskCall::Write(at, piece) => {
@@ -49,7 +49,7 @@ impl Images {
         }
     }
 
-    /// Leaves the session's disk as it reads for the only image.
+    /// Has the session's disk, as it reads, be the only image that a crash of the session may leave of it.
     fn leave_disk(&mut self, alloc: Global) -> Option<()> {
         self.all.clear();
         let image = self.disk.bytes().to_vec(alloc).ok()?;

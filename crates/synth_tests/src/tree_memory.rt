@@ -198,7 +198,7 @@ fn fault_of(alloc: Global, tree: &mut Tree, edit: Edit, at: &Path) -> Option<Tre
     }
 }
 
-/// The fault alone with which an edit of a tree was refused, as for want of memory.
+/// In a test of edits that are refused for want of memory, the fault alone with which one was refused.
 fn fault_alone(refused: Option<(TreeFault, Phrase)>) -> Option<TreeFault> {
     match refused {
         Some((fault, _)) => Some(fault),

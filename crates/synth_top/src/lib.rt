@@ -96,7 +96,8 @@ pub fn synth<S: Source, K: Sink, F: Files, W: Work>(
     }
 }
 
-/// The editor as the options ask for: loads files, runs the session to its end, and saves where memory ran out.
+/// The editor as a whole, as the options ask for it: it loads files, runs the session to its end, and saves
+/// where memory ran out.
 fn edit<S: Source, K: Sink, F: Files, W: Work>(
     alloc: Global,
     options: &Options<'_>,

@@ -90,7 +90,8 @@ fn edit_of(word: EditWord, rest: &[Vec<u8>]) -> Option<Edit<'_>> {
     }
 }
 
-/// The part of which an edit is, as its word says: a number up to 255, or `-` for the node itself.
+/// The part at which an edit of a tree is made, as the word of a case says it: a number up to 255, or `-` for
+/// the node itself.
 fn part_of(word: &[u8]) -> Option<Option<u8>> {
     if word == b"-".as_slice() {
         return Some(None);

@@ -113,7 +113,7 @@ front_of (first ∷ rest) =
     else if is_digit first then Some (number_front (first ∷ rest))
     else sign_front first rest
 
--- the token that a text begins with, and its places, where the text stands at this place
+-- the token that a text begins with, as the function gives it, with its places, where the text stands at this place
 abbrev pub placed_at : ℕ → Option Front → Option Placed
 placed_at start None = None
 placed_at start (Some front) = Some (record { kind = front.kind; start = start; end = start + front.length })

@@ -30,7 +30,8 @@ type_in Forest.nil slot = None
 type_in (Forest.cons label inner rest) slot =
     if label.slot == slot then type_given label.kind label.parts else type_in rest slot
 
--- main and the procedures before the one in the slot, as the verdicts of its phrases ask
+-- for the verdict of each phrase of a program, main and the procedures before the one in the slot in which the phrase
+-- stands
 abbrev pub procedures_before : (program : Forest) → (slot : ℕ) → Forest
 procedures_before Forest.nil slot = Forest.nil
 procedures_before (Forest.cons label inner rest) slot =

@@ -38,7 +38,7 @@ edit_slot slot change (Forest.cons label inner rest) =
 abbrev pub with_items : PlainTree → Forest → ℕ → PlainTree
 with_items tree items drawn = record { items = items; spare = tree.spare; drawn = drawn; live = count items }
 
--- nodes as an edit at a slot of a tree puts them there: nothing in them is elided
+-- what an edit of a tree puts at a slot where it is given these nodes: they, with nothing in them elided
 abbrev pub whole : Forest → Forest
 whole Forest.nil = Forest.nil
 whole (Forest.cons label inner rest) = Forest.cons (record label { elided = false }) (whole inner) (whole rest)
