@@ -28,7 +28,7 @@ with_clip name fragment [] = (name, fragment) ∷ []
 with_clip name fragment (pair ∷ pairs) =
     if bytes_eq name pair.0 then (pair.0, fragment) ∷ pairs else pair ∷ with_clip name fragment pairs
 
--- how many slots the fragments of clips as plain data have together
+-- how many slots clips as plain data have together, in their fragments
 abbrev pub slots_held : List Pair → ℕ
 slots_held pairs = sum_by slots_of (values_of pairs)
 

@@ -61,7 +61,7 @@ pub(crate) enum Change {
     Link,
 }
 
-/// A source that is read, or a sink that is written to, by the word that a case begins with.
+/// The words that cases of streams begin with: a source that is read, or a sink that is written to.
 #[derive(Clone, Copy)]
 pub(crate) enum StreamCall {
     Source,

@@ -30,11 +30,11 @@ abbrev pub opened : List ListedLine → ℕ
 opened [] = 0
 opened (row ∷ rows) = (if row.opens then 1 else 0) + opened rows
 
--- trouble in a line: a node begins in it whose path has too many numbers, one more than the line's level
+-- trouble in a line of a file: a node begins in it whose path has too many numbers, one more than the line's level
 abbrev pub OpensTooDeep : ListedLine → Type 0
 OpensTooDeep row = (row.opens ≡ true) × (deepest_path ≤ row.line.level)
 
--- trouble in a line: a node begins in it, and as many as may be begin before it
+-- trouble in a line of a file: a node begins in it, and as many as may be begin before it
 abbrev pub OpensTooMany : List ListedLine → ListedLine → Type 0
 OpensTooMany before row = (row.opens ≡ true) × (most_slots ≤ opened before)
 

@@ -22,7 +22,8 @@ blanks x = prefix_len is_blank x
 abbrev pub unblanked : List ℕ → List ℕ
 unblanked x = drop (blanks x) x
 
--- a whole text that isn't cut into tokens, without the blanks at both its ends, as a comment's is read
+-- a whole text without the blanks at both its ends, in place of its cut into tokens where that isn't made, as of a
+-- comment's
 abbrev pub trimmed : List ℕ → List ℕ
 trimmed x = reverse (unblanked (reverse (unblanked x)))
 

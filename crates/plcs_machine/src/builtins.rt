@@ -203,7 +203,7 @@ fn part(bytes: &[u8], from: usize, count: usize) -> Value
     cut(&bytes[from..from + count])
 }
 
-/// The bytes of a part of a text, as a value.
+/// What a built-in function makes of a text where it takes a part of it: the bytes of that, as a value.
 fn cut(bytes: &[u8]) -> Value
     requires short { IsTextValue bytes.now }
     ensures { result ≡ Value.Text bytes.now }

@@ -331,7 +331,7 @@ fn get(frames: &Frames, rest: &[u8], next: u32, name: &Name, subscript: Option<i
     }
 }
 
-/// Reads an item of the input into the cell at a location.
+/// What an instruction does that reads an item of the input into the cell at a location.
 fn read_into(frames: &Frames, rest: &[u8], next: u32, location: Location) -> Doing
     requires short { length rest.now ≤ 4294967295 }
     requires fine { is_fine (read_lead frames.now rest.now next location) ≡ true }
@@ -354,7 +354,8 @@ fn read_into(frames: &Frames, rest: &[u8], next: u32, location: Location) -> Doi
     }
 }
 
-/// Reads an item of the input into a cell of an array, whose subscript is the newest operand.
+/// What the instruction does that reads an item of the input into a cell of an array, whose subscript is the
+/// newest operand.
 fn get_at(frames: &Frames, operands: &mut Operands, rest: &[u8], next: u32, name: &Name) -> Doing
     requires short { length rest.now ≤ 4294967295 }
     requires fine { is_fine (get_at_lead frames.now rest.now next name.now operands.old.values) ≡ true }
@@ -528,7 +529,7 @@ fn iterate_to(
 
 // ---- calls
 
-/// Calls the procedure of the name, unless too many frames stand.
+/// What the instruction does that calls the procedure of the name, unless too many frames stand.
 fn call<W: Work, C: CodeView<W>>(code: &C, frames: &Frames, name: &Name) -> Led
     requires fine { is_fine (named_call_lead (C.code code.now) frames.now name.now []) ≡ true }
     ensures { (values : List Value) (arguments : List Argument) → plain_led result values arguments

@@ -305,7 +305,8 @@ fn follow<W: Work, C: CodeView<W>>(
     }
 }
 
-/// Makes the frame of the procedure in a slot, which is entered at an address, and goes to its first place.
+/// Ends a step that calls: makes the frame of the procedure in a slot, which is entered at an address, and goes
+/// to its first place.
 fn enter<W: Work, C: CodeView<W>>(
     alloc: Global,
     code: &C,

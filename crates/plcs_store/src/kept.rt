@@ -33,7 +33,7 @@ impl Headings {
         Headings { headings }
     }
 
-    /// Gives the parts of the kept headings back. It takes no memory.
+    /// Gives the parts of the headings back that are kept of the program. It takes no memory.
     pub fn into_vec(self) -> Vec<CopiedParts>
         ensures { result.items ≡ self }
     {
@@ -71,7 +71,7 @@ impl DeclaredList {
         DeclaredList { items }
     }
 
-    /// Gives the kept items back. It takes no memory.
+    /// Gives the items back that are kept of the program. It takes no memory.
     pub fn into_vec(self) -> Vec<Declared>
         ensures { result.items ≡ self }
     {
@@ -109,7 +109,7 @@ impl DeclaredLists {
         DeclaredLists { lists }
     }
 
-    /// Gives the kept lists of items back. It takes no memory.
+    /// Gives the lists of items back that are kept of the program. It takes no memory.
     pub fn into_vec(self) -> Vec<DeclaredList>
         ensures { result.items ≡ self }
     {
@@ -151,7 +151,7 @@ impl HeldTemplates {
         HeldTemplates { templates }
     }
 
-    /// Gives the kept templates back. It takes no memory.
+    /// Gives the templates back that are kept of the program. It takes no memory.
     pub fn into_vec(self) -> Vec<HeldTemplate>
         ensures { result.items ≡ self }
     {

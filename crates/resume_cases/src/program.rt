@@ -57,7 +57,7 @@ fn take(bench: &mut Bench, tree: Tree)
     bench.tree = tree;
 }
 
-/// Tells how many slots the program of the bench has.
+/// Tells how many slots the program of the bench has, the new one or the one that was read.
 fn tell_slots(bench: &Bench, told: &mut Told)
     requires { IsBench bench.now }
 {

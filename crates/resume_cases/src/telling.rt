@@ -16,7 +16,7 @@ pub(crate) fn tell_place(suspended: &Suspended, told: &mut Told) {
     told.line("");
 }
 
-/// Tells why the run stands still, and where, and how many of its steps can be taken back.
+/// Tells how a run stands: why it stands still, and where, and how many of its steps can be taken back.
 pub(crate) fn tell_paused(suspended: &Suspended, told: &mut Told) {
     told.value(&suspended.run.reason);
     told.text(" ");
@@ -29,7 +29,7 @@ pub(crate) fn tell_paused(suspended: &Suspended, told: &mut Told) {
     told.line(" held");
 }
 
-/// Tells a place: its slot and its point.
+/// Tells where a run stands: the slot and the point of the place.
 fn put_place(place: Place, told: &mut Told) {
     told.text("at ");
     told.value(&place.slot.0);

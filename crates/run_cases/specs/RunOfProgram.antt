@@ -28,7 +28,7 @@ pub record IsRunOf (code : PlainCode) (c : PlainConfiguration) : Type 0 where
   pub program : IsProgramCode code
   pub fits : Fits program.tree.items c
 
--- a run by the code stands between two steps, and the room for operands is empty
+-- what a run by the code of a program is in between two steps: there the room for operands is empty
 pub record StandsByCode (code : PlainCode) (state : RunState) : Type 0 where
   pub run : IsRunOf code (plain_configuration state)
   pub values : state.operands.values ≡ []

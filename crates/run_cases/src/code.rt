@@ -15,7 +15,7 @@ use std::alloc::Global;
 use template_tree::Tree;
 use type_marks::Marks;
 
-/// What the code is asked.
+/// What a case asks of the code of the program.
 #[derive(Clone, Copy)]
 pub(crate) enum Question {
     /// All of its instructions.

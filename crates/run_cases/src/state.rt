@@ -79,7 +79,7 @@ fn tell_frame(decls: &Decls, frame: &Frame, told: &mut Told) {
     }
 }
 
-/// Tells a loop that a frame keeps.
+/// Tells a loop that a frame keeps in what the run is in.
 fn tell_loop(kept: KeptLoop, told: &mut Told) {
     told.text(", loop ");
     told.value(&kept.slot.0);

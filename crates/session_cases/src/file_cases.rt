@@ -47,7 +47,7 @@ pub fn content(scene: &mut Scene, name: &[u8]) -> Option<()> {
     Some(())
 }
 
-/// Tells what the file of this name holds.
+/// For a case of files, tells what the file of this name holds, as a run finds or leaves it.
 pub fn tell_content(files: &MemFiles, name: &[u8], told: &mut Told) {
     match files.content(name) {
         Some(bytes) => told.word_line(bytes),

@@ -84,7 +84,8 @@ impl Images {
         Some(())
     }
 
-    /// Whether each image recovers to nothing or to these keys, and one to these.
+    /// Whether each image that a crash of the session may leave recovers to nothing or to these keys, and one
+    /// to these.
     pub fn leave(&mut self, keys: &[u8]) -> Option<bool> {
         let mut is_found = false;
         for image in &self.all {

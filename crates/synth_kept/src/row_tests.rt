@@ -353,7 +353,8 @@ fn first_other(alloc: Global) -> Option<(&'static str, Outcome)> {
     other_row(alloc, &mut played, &mut images)
 }
 
-/// Plays the rows in turn, up to the first one that is otherwise.
+/// Plays the sessions of the rows in turn, up to the first one that writes, keeps or ends otherwise than its
+/// row says.
 fn other_row(
     alloc: Global,
     played: &mut Played,

@@ -179,7 +179,7 @@ impl<W: Work> Session<W> {
         Answer::Refused(why)
     }
 
-    /// Accepts a key of the session: no message is shown, and the window follows the cursor.
+    /// The session accepts a key: it shows no message, and its window follows the cursor.
     pub(crate) fn accept(&mut self) -> Answer
         requires agrees { Agrees self.old.program }
         requires placed { IsPlaced (plain_session self.old) }

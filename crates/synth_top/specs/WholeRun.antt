@@ -272,7 +272,7 @@ pub record Ran (status : Status) (options : PlainOptions) (before now : Told) (a
   pub wants_later : before.files.wants ≤ wants
   pub stopped : Stopped course before.files.wants wants status
   pub source : LeavesSource course after_reads after_fault
-  -- what was saved at the end
+  -- what a whole run saved at its end
   pub rescue : Rescue
   pub rescued : IsRescue status rescue
   pub wants_now : CountsRescueWant rescue wants now.files.wants

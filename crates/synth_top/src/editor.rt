@@ -218,7 +218,7 @@ impl<W: Work> Editor<W> {
         self.press_if(alloc, key, screen, files, work)
     }
 
-    /// Presses the keys of one byte in their order.
+    /// Presses in the run the keys that one byte completes, in their order.
     fn press_keys<K: Sink, F: Files>(
         &mut self,
         alloc: Global,

@@ -33,7 +33,7 @@ pub(crate) enum Edit<'a> {
     DropHole,
 }
 
-/// The words that name edits of trees.
+/// The words by which cases of trees name the edits that they make.
 #[derive(Clone, Copy)]
 pub(crate) enum EditWord {
     Fill,
@@ -70,7 +70,7 @@ pub(crate) fn step_with(word: EditWord, words: &[Vec<u8>]) -> Option<Step<'_>> {
     Some((edit_of(word, rest)?, At::of(at.as_slice())?))
 }
 
-/// The edit of the word, with the words behind the path.
+/// The edit of a tree that the word names, with the words behind the path.
 fn edit_of(word: EditWord, rest: &[Vec<u8>]) -> Option<Edit<'_>> {
     match (word, rest) {
         (EditWord::Fill, [template]) => Some(Edit::Fill(meaning(&TEMPLATES, template)?)),

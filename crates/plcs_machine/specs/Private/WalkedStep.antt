@@ -79,7 +79,7 @@ abbrev pub led_answer : PlainCode → RunState → (left : ℕ) → Led → Opti
 led_answer code state left led =
     ending_answer code (plain_configuration state) left (plain_led led state.operands.values state.operands.arguments)
 
--- behind one that calls the procedure in a slot, which is entered at the address
+-- the answer of a walked step behind an instruction that calls the procedure in a slot, which is entered at the address
 abbrev pub called_answer : PlainCode → RunState → (left address slot : ℕ) → Option FetchedAnswer
 called_answer code state left address slot =
     ending_answer code (plain_configuration state) left (Outcome.gives (Lead.enters slot address state.operands.arguments))

@@ -69,7 +69,7 @@ lines elides level left (Forest.cons label inner rest) =
     ++ (fixed_line level (row_of label.kind).last
     ++ lines elides level (left_after here) rest)))
 
--- the lines of a program as its listing has them: elided refinements too
+-- all lines of a program, which its listing has: elided refinements too
 abbrev pub listing_lines : Forest → List Line
 listing_lines = lines false 0 program_sections
 

@@ -130,7 +130,7 @@ site_start site = if passes_in site.label.kind then begin site.inner site.after 
 abbrev pub Start : Forest → ℕ → Option PlainPlace
 Start items slot = option_map site_start (site items slot)
 
--- where a run goes on once the statement in the slot is done
+-- the place where a run goes on once the statement in the slot is done
 abbrev pub After : Forest → ℕ → Option PlainPlace
 After items slot = option_map (λ site. site.after) (site items slot)
 
