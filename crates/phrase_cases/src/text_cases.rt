@@ -78,7 +78,8 @@ fn is_copied(alloc: Global, phrase: &Phrase, text: &[u8]) -> bool {
     }
 }
 
-/// Whether the text that is shown of a phrase is parsed as the same phrase, of which the same is shown.
+/// Whether, in a case on texts that are shown, the text of a phrase is parsed as the same phrase, of which the
+/// same is shown.
 fn is_read_again(alloc: Global, phrase: &Phrase, text: &[u8]) -> bool {
     match parsed(alloc, phrase.category(), text) {
         Some(Ok(again)) => same_phrase(phrase, &again) && shown(alloc, &again).as_bytes() == text,

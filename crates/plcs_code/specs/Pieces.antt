@@ -237,12 +237,12 @@ own_jumps marks label before first others =
 
 -- ---- by the items of a program, and by the lengths of the codes inside
 
--- the length of the first code inside a node, on which its jumps depend
+-- in the table of code, the length of the first code inside a node, on which the node's jumps depend
 abbrev pub first_length : List ℕ → ℕ
 first_length [] = 0
 first_length (n ∷ ns) = n
 
--- the length of the codes inside a node behind the first one, on which its jumps depend
+-- in the table of code, the length of the codes inside a node behind the first one, on which the node's jumps depend
 abbrev pub other_lengths : List ℕ → ℕ
 other_lengths [] = 0
 other_lengths (n ∷ ns) = sum ns

@@ -145,7 +145,7 @@ fn elide_under(
     Some(tree.elide(at))
 }
 
-/// Makes the edit at the stop that the words say.
+/// Makes the change of a bench's program that the words say, an edit at the stop.
 fn edit_at(
     alloc: Global,
     bench: &mut Bench,

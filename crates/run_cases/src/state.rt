@@ -98,7 +98,7 @@ fn tell_named(frame: &Frame, name: &Name, told: &mut Told) {
     }
 }
 
-/// Tells a variable: its type, the size of an array, and its cells.
+/// Tells a variable, as a part of what a run is in: its type, the size of an array, and its cells.
 fn tell_variable(variable: &Variable, told: &mut Told) {
     told.value(&variable.ty);
     if variable.size > 0 {

@@ -56,7 +56,7 @@ impl Images {
         self.all.push(image).ok()
     }
 
-    /// Writes to the disk, at a place within it or at its end.
+    /// Writes to the disk of the session of which images are made, at a place within it or at its end.
     fn write(&mut self, at: u64, piece: &[u8]) -> Option<()> {
         if at <= self.disk.bytes().len() as u64 {
             self.disk.write_at(at, piece).ok()?;

@@ -144,7 +144,8 @@ impl<W: Work> Session<W> {
         self.enter_read(alloc, read, work)
     }
 
-    /// Enters at the cursor what was read of phrase text.
+    /// What Enter does with a typed line that was read as phrase text: the phrase is entered at the cursor, or
+    /// the key is refused for the fault.
     fn enter_read(
         &mut self,
         alloc: Global,

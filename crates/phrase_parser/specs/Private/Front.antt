@@ -42,7 +42,7 @@ number_kept length x = record { kind = kind.Number (min (numeral_value (take len
 abbrev pub number_front : List ℕ → Front
 number_front x = number_kept (prefix_len is_digit x) x
 
--- the bit that a digit of a bit constant at the front of a text stands for
+-- the bit for which the digit stands in the token that a text begins with, where that is a bit constant
 abbrev pub bit_value : ℕ → Option Bool
 bit_value digit = if digit == 48 then Some false else if digit == 49 then Some true else None
 

@@ -71,7 +71,7 @@ abbrev pub infix_found : InfixOp → Kind → Kind → Result Kind MarkKind
 infix_found op left right =
     if is_pair (infix_takes op) left right then Ok (infix_gives op) else Err MarkKind.TypeMismatch
 
--- whether the number of arguments that were found is right where so many are taken, and perhaps one more
+-- whether it is no offence that so many arguments were found, where so many are taken, and perhaps one more
 abbrev pub is_count : ℕ → Option Kind → ℕ → Bool
 is_count taken None count = count == taken
 is_count taken (Some kind) count = (count == taken) || (count == taken + 1)
