@@ -26,7 +26,7 @@ Leaves synced (range ∷ pending) image =
 abbrev pub MayLeave : DiskState → List ℕ → Type 0
 MayLeave state image = Leaves state.synced state.pending image
 
--- this holds of the newest of the states of a disk that tells; of one that doesn't nothing is said
+-- of a disk that tells its states this holds of the newest of them; of one that doesn't nothing is said
 abbrev pub Newest : (DiskState → Type 0) → List DiskState → Type 0
 Newest P [] = Unit {0}
 Newest P (state ∷ past) = P state

@@ -79,7 +79,7 @@ fn lay_argument<W: Work, O: InstrOut<W>>(alloc: Global, argument: &Expr, out: &m
     out.put(Instr::Dummy, work);
 }
 
-/// Lays the instruction of a call with so many arguments.
+/// Of the code of a phrase that is a call, lays the instruction that calls, with so many arguments.
 fn put_call<W: Work, O: InstrOut<W>>(name: &Name, arguments: usize, out: &mut O, work: &mut W)
     ensures { LaysAll O.lays out.old (W.counts work.old) (PlainInstr.call name.now arguments ∷ []) out.new
         (W.counts work.new) }

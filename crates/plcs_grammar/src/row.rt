@@ -68,7 +68,7 @@ impl NodeKind {
     }
 }
 
-/// Whether the word is that of the command that the table of templates has for a kind of node, if it has one.
+/// Whether a row of the table of templates has the word as that of its command, if it has one.
 fn is_command(word: &[u8], command: Option<&[u8]>) -> bool
     ensures { result ≡ is_command word.now (option_map (λ own. own.now) command.entry) }
 {

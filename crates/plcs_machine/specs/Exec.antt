@@ -25,7 +25,8 @@ acted c act landing = PlainStepAnswer.stepped (done act landing.place c)
 abbrev pub called : PlainConfiguration → (slot : ℕ) → Landing → PlainStepAnswer
 called c slot landing = acted c (Act.call (new_frame slot landing.place landing.variables)) landing
 
--- the frame that a step by code makes for a call with these arguments, before it has variables
+-- the frame that one step of a run by code makes for a call with these arguments, before its instructions make the
+-- variables
 abbrev pub making_for : List Argument → Making
 making_for arguments = record { variables = []; arguments = arguments }
 

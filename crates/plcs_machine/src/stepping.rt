@@ -234,7 +234,7 @@ fn write(state: &mut RunState, skip: bool, count: u32) -> bool
     state.output.write(skip, given).is_ok()
 }
 
-/// Stores a value that was read, and goes on behind that.
+/// In one step of a run, stores a value that was read, and goes on behind that.
 fn read<W: Work, C: CodeView<W>>(
     code: &C,
     location: Location,

@@ -27,7 +27,7 @@ pub struct Screens {
 }
 
 impl Screens {
-    /// Two blank grids of the least size.
+    /// Two grids of the least size, on which no view is drawn yet, to be painted one over the other.
     pub fn new(alloc: Global) -> Result<Screens, AllocError> {
         Screens::blank(alloc, FEWEST_ROWS, FEWEST_COLS)
     }

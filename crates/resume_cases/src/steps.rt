@@ -197,7 +197,7 @@ fn try_step(
     }
 }
 
-/// Why a run stands still of which a step isn't made for this reason.
+/// Where a step of the bench's run isn't made for this reason, why the run then stands still.
 fn reason_of(reason: Reason) -> RunReason {
     match reason {
         Reason::Placeholder => RunReason::Placeholder,

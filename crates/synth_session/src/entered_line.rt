@@ -173,7 +173,7 @@ impl<W: Work> Session<W> {
     }
 }
 
-/// The phrase that the typed text is in the category.
+/// The phrase that the typed line, entered as phrase text, is in the category.
 fn read_phrase(alloc: Global, category: Category, text: &[u8]) -> Result<Phrase, PhraseFault>
     requires { length text.now < 2 ^ 32 }
     ensures read { (standing : Standing) × HasStanding category text.now standing × IsReadOf standing result }

@@ -256,8 +256,8 @@ fn walk_at_random(
     Some(())
 }
 
-/// Tells whether more edits of a random walk than the least number were made, and whether each step back led to the
-/// tree before it.
+/// In a case of many edits that are undone, tells whether more of a random walk than the least number were
+/// made, and whether each step back led to the tree before it.
 fn tell_made(walked: &Walked, least: u32, told: &mut Told) {
     told.text(if walked.made > least {
         "more than "

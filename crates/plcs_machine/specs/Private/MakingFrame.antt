@@ -13,7 +13,8 @@ use Rattle.plcs_machine.specs.Passing.{Landing, Making, settle}
 abbrev pub making_of : Variables → List Argument → Making
 making_of variables arguments = record { variables = variables; arguments = arguments }
 
--- the cell of a parameter of the type for an argument, if that is a variable or a value of its kind
+-- in a frame that is made for a call, the cell of a parameter of the type for an argument, if that is a variable or a
+-- value of its kind
 abbrev pub argument_cell : ItemType → Argument → Option Cell
 argument_cell ty (Argument.Reference location) = Some (Cell.Ref location)
 argument_cell ty (Argument.Dummy value) = option_map Cell.Held (kept_value ty value)

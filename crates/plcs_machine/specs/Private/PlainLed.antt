@@ -24,7 +24,7 @@ leads_to_address (Lead.enters slot address arguments) = true
 leads_to_address (Lead.arrives place) = true
 leads_to_address Lead.ends = true
 
--- whether what an instruction comes to is defined, and leads to where an address is
+-- whether the code can tell what an instruction comes to: it is defined, and leads to where an address is
 abbrev pub is_fine : Outcome Lead → Bool
 is_fine (Outcome.gives leads) = leads_to_address leads
 is_fine (Outcome.stops reason) = true

@@ -25,7 +25,7 @@ use Rattle.plcs_machine.specs.Private.CountedSteps.{behind_many}
 use Rattle.plcs_machine.specs.Private.DoableLead.{IsDoable}
 use Rattle.plcs_machine.specs.Private.PlainLed.{TakesAtMost, plain_doing, plain_led}
 
--- where no instruction comes next
+-- behind an instruction that doesn't go on to another, no instruction comes next
 abbrev pub nowhere : (address : ℕ) → List Value → List Argument → Option FetchedAnswer
 nowhere address values arguments = None
 
@@ -118,6 +118,6 @@ abbrev pub with_output_if : Bool → (output : List ℕ) → PlainConfiguration 
 with_output_if true output c = record c { output = output }
 with_output_if false output c = c
 
--- the configuration stands at the place where an act goes on
+-- the configuration of a step whose instructions are run, standing at the place where its act goes on
 abbrev pub standing_at : PlainPlace → PlainConfiguration → PlainConfiguration
 standing_at place c = record c { frames = newest_at place c.frames }
