@@ -132,7 +132,7 @@ impl Clips {
         Ok(())
     }
 
-    /// How many clips are held under other names.
+    /// How many of the clips have other names than this one.
     fn other_names(&self, name: &Name) -> usize
         ensures { result ≡ length (without_name name.now self.now.pairs) }
     {

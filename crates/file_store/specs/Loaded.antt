@@ -59,7 +59,8 @@ NoListing x rows rest =
     × ((items : Forest) (y : List ℕ) → ¬ (Spells items (text_of_lines rows ++ (line ++ (10 ∷ y))))))
     ⊎ (HasNoEnd rest × ((items : Forest) → ¬ (Spells items x)))
 
--- behind lines without trouble stands a line with which some listing goes on, and of which this holds
+-- in the bytes of a file, behind lines without trouble, stands a line with which some listing goes on, and of which
+-- this holds
 abbrev pub NextLine : List ℕ → (List ListedLine → ListedLine → Type 0) → Type 0
 NextLine x P =
     (rows : List ListedLine) × (row : ListedLine) × (rest : List ℕ)

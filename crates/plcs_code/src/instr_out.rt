@@ -167,7 +167,7 @@ impl Tally {
         Ok(self.count)
     }
 
-    /// Counts one instruction more.
+    /// Counts one instruction more in the tally.
     fn raise(&mut self)
         ensures { (self.new.failed ≡ false → self.old.failed ≡ false) ×
             (self.new.failed ≡ false → self.new.count ≡ self.old.count + 1) }

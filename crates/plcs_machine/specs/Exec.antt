@@ -13,7 +13,7 @@ use Rattle.plcs_machine.specs.Fetched.{Fetched, at_once, behind_one, with_result
 use Rattle.plcs_machine.specs.Lead.{Lead, address_of, lead}
 use Rattle.plcs_machine.specs.Passing.{Landing, Making, settle}
 
--- the answer of one step of a run by code, with how many instructions it fetches
+-- what one step of a run by code comes to: its answer, with how many instructions it fetches
 abbrev pub FetchedAnswer : Type 0
 FetchedAnswer = Fetched PlainStepAnswer
 

@@ -59,7 +59,7 @@ abbrev pub jumped : (next : ℕ) → List Value → List Argument → ℤ → Ou
 jumped next values arguments d =
     then_gives (if_there (jump_target next d)) (λ target. Outcome.gives (Lead.goes_on target values arguments))
 
--- an act, behind which the next instruction comes
+-- what each instruction leads to that does an act, behind which the next instruction comes
 abbrev pub then_acts : (next : ℕ) → Outcome Act → Outcome Lead
 then_acts next outcome = then_gives outcome (λ act. Outcome.gives (Lead.acts act next))
 

@@ -116,7 +116,7 @@ fn push_text(operands: &mut Operands, next: u32, text: &TextValue) -> Led
     push(operands, next, Value::Text(copy))
 }
 
-/// Adds an argument behind the others.
+/// What an instruction does that adds an argument behind the others.
 fn add(operands: &mut Operands, next: u32, argument: Argument) -> Led
     requires fine { is_fine (add_lead next operands.old.values operands.old.arguments argument) ≡ true }
     ensures { plain_led result operands.new.values operands.new.arguments

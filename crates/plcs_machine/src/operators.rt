@@ -205,7 +205,7 @@ pub(crate) fn fixed_value(number: i64) -> Result<Option<Value>, FaultKind>
     }
 }
 
-/// The byte of this number, or a blank behind the last one.
+/// What an operator compares of a text: the byte of this number, or a blank behind the last one.
 fn byte_or_blank(bytes: &[u8], k: usize) -> u8
     ensures { result ≡ get_or bytes.now k 32 }
 {

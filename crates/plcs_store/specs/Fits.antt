@@ -42,7 +42,7 @@ waits_in_template Template.Comment point = false
 waits_in_template Template.Proc point = false
 waits_in_template Template.ProcP point = false
 
--- whether a place at which a node of the kind stands is that of a CALL which waits for what it called
+-- whether a place at which a frame stands, by the kind of its node, is that of a CALL which waits for what it called
 abbrev pub is_waiting_place : NodeKind → (point : ℕ) → Bool
 is_waiting_place NodeKind.DeclarationHole point = false
 is_waiting_place NodeKind.StatementHole point = false
@@ -136,7 +136,7 @@ IsNoReference Cell.Unset = Unit {0}
 IsNoReference (Cell.Held value) = Unit {0}
 IsNoReference (Cell.Ref location) = ⊥
 
--- there is a cell of the kind at the location, and it is no reference
+-- to this location a reference may go that fits: there is a cell of the kind, and it is no reference
 pub record IsTarget (frames : List Frame) (kind : Kind) (location : Location) : Type 0 where
   pub variable : Variable
   pub there : variable_at frames location.frame location.name ≡ Some variable

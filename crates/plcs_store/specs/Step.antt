@@ -166,8 +166,8 @@ step_answer c (Outcome.gives going) = Some (PlainStepAnswer.stepped (done going.
 step_answer c (Outcome.stops reason) = Some (PlainStepAnswer.stopped reason)
 step_answer c Outcome.undefined = None
 
--- the answer where the procedure of the newest frame is left: its caller goes on where it waits, and without one the run is
--- over
+-- the answer of one step of a run that leaves the procedure of the newest frame: its caller goes on where it waits, and
+-- without one the run is over
 abbrev pub leave_answer : (spots : PlainPlace → Option Spot) → PlainConfiguration → Option PlainStepAnswer
 leave_answer spots c =
     if nat_le (length c.frames) 1 then Some PlainStepAnswer.ended

@@ -48,7 +48,7 @@ impl Headings {
     }
 }
 
-/// The effective items of a procedure, which contracts see as a list.
+/// The effective items of a procedure, as they are kept of the program; contracts see them as a list.
 #[derive(Drop)]
 pub struct DeclaredList {
     items: Vec<Declared>,

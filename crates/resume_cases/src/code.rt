@@ -22,7 +22,7 @@ pub(crate) fn code_of(alloc: Global, tree: &Tree) -> Option<FlatCode<Counts>>
     code_by(alloc, tree, &decls)
 }
 
-/// The code of the program, whose table of declarations this is.
+/// The code of the program, made anew, whose table of declarations this is.
 fn code_by(alloc: Global, tree: &Tree, decls: &Decls) -> Option<FlatCode<Counts>>
     requires tree { IsTree tree.now }
     requires decls { IsDeclsOf decls.now tree.now.items }

@@ -178,7 +178,7 @@ fn edit_at(
     })
 }
 
-/// The phrase of the category that the text is, if it may stand in a part.
+/// For a change of the program, the phrase of the category that the text is, if it may stand in a part.
 fn phrase(alloc: Global, category: Category, text: &[u8]) -> Option<Phrase>
     ensures { IfSome result (λ phrase. IsPhrasePlace (Some (plain_phrase phrase))) }
 {

@@ -89,7 +89,7 @@ fn tell_loop(kept: KeptLoop, told: &mut Told) {
     told.value(&kept.step);
 }
 
-/// Tells the variable of the name of a frame, if there is one.
+/// Tells a variable of what the run is in: the one of a frame that has the name, if there is one.
 fn tell_named(frame: &Frame, name: &Name, told: &mut Told) {
     if let Some(variable) = frame.cells.get(name) {
         put_bytes(name.as_bytes(), told);

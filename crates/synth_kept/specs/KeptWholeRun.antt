@@ -73,7 +73,7 @@ pub record WholeRunOverKeys (options : PlainOptions) (run : Status) (closing : C
   -- perhaps others behind them
   pub keys : TellsBoth before → AreKeys (kept_keys before.past) taken last (bytes_given ended)
   pub none_lost : TellsBoth before → Newest (LeavesAllOf (bytes_given ended)) now.past
-  -- the journal is cleared exactly where a key ended the session
+  -- the journal of a session whose keys are kept is cleared exactly where a key ended it
   pub quit : TellsBoth before →
       ClearsWhere ((run ≡ Done) × IsQuit ended) closing
 

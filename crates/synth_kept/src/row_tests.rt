@@ -105,7 +105,7 @@ enum Found {
     Left,
 }
 
-/// What a session writes.
+/// What the session of a row writes.
 #[derive(Clone, Copy)]
 enum Written {
     /// So many pieces of the stored run.

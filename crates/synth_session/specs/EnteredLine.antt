@@ -42,11 +42,11 @@ is_unbuilt_word word = list_any (bytes_eq word) unbuilt_words
 unfoldable pub is_unbuilt : List ℕ → Bool
 is_unbuilt line = option_map_or is_unbuilt_word (command_word line) false
 
--- what `.quit` does: the session ends, and nothing is shown any more
+-- what Enter does with `.quit`: the session ends, and nothing is shown any more
 abbrev pub quit_outcome : PlainSession → KeyOutcome
 quit_outcome s = record { after = s; answer = Answer.Quit; checks = 0 }
 
--- what each command does; what one of files does depends on what they reply
+-- what Enter does with each command; what it does with one of files depends on what they reply
 abbrev pub command_outcome : PlainSession → PlainCommand → Reply → KeyOutcome
 command_outcome s (PlainCommand.template template) reply = edited_by s (PlainEdit.fill template)
 command_outcome s PlainCommand.float reply = refusal_outcome s why.FloatNotThere

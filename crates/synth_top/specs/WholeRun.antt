@@ -95,8 +95,8 @@ pub record Course (options : PlainOptions) (first : EditorState) (before now : T
   -- how many reads were made
   pub reads : ℕ
   pub made : now.reads ≡ raised_by reads before.reads
-  -- the keys pressed, each with what was replied in it; what isn't complete is pressed only where
-  -- no byte comes any more
+  -- the keys that a whole run pressed, each with what was replied in it; what isn't complete is pressed only where no
+  -- byte comes any more
   pub pressed : List PressedKey
   pub can_reply : HaveReplies first pressed
   pub in_order : IsFront (keys_pressed pressed) (keys bytes)

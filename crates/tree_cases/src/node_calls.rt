@@ -83,8 +83,8 @@ fn tell_nodes(tree: &Tree, told: &mut Told)
     }
 }
 
-/// Goes on, as a tree is read, to the next node in listing order: the first one inside, or the next one behind. Says
-/// whether there is one.
+/// In a case that reads a tree, goes on to the next node in listing order: the first one inside, or the next
+/// one behind. Says whether there is one.
 fn goes_on(tree: &Tree, at: &mut Path) -> bool
     requires { IsTree tree.now }
 {

@@ -73,7 +73,7 @@ fn parsed(alloc: Global, category: Category, text: &[u8]) -> Option<Phrase>
     parse(alloc, category, text).ok()
 }
 
-/// Where a case is played: at the path of a word, or at the node in a slot.
+/// What a word of a case stands for that says where the case is played: a path, or the node in a slot.
 #[derive(Clone, Copy)]
 pub(crate) enum At<'a> {
     Path(&'a [u8]),

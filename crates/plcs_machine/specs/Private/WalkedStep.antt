@@ -109,11 +109,12 @@ IsDone wanted answer before now noted notes =
 abbrev pub IsStateKept : (before now : RunState) → (noted notes : Undo) → Type 0
 IsStateKept before now noted notes = NothingChanges (plain_configuration before) (plain_configuration now) noted notes
 
--- what was written in a state, with so many newest operands behind it, on a new line or not
+-- of a step whose instructions are run: what was written in its state, with so many newest operands behind it, on a new
+-- line or not
 abbrev pub output_then : RunState → (skip : Bool) → (count : ℕ) → List ℕ
 output_then state skip count = output_with skip state.output (reverse (take count state.operands.values))
 
--- what is written behind what was written before, if it fits
+-- of a step whose instructions are run: its configuration with this output, if what was written fits
 abbrev pub with_output_if : Bool → (output : List ℕ) → PlainConfiguration → PlainConfiguration
 with_output_if true output c = record c { output = output }
 with_output_if false output c = c

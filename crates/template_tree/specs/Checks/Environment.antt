@@ -196,7 +196,7 @@ heading_of (NodeKind.Filled template) parts = template_heading template parts
 abbrev pub may_be_called : List ℕ → Bool
 may_be_called name = not (is_builtin_name name) && not (bytes_eq name (codes "main"))
 
--- the kind of the values of a declared type
+-- the kind of the values of an item, by the type that its declaration says
 abbrev pub kind_of_type : ItemType → Kind
 kind_of_type ItemType.Fixed = Kind.Fixed
 kind_of_type ItemType.Bit = Kind.Bit
@@ -206,8 +206,8 @@ kind_of_type (ItemType.Text n) = Kind.Text
 abbrev pub scalar_kind : Declared → Option Kind
 scalar_kind item = if item.size == 0 then Some (kind_of_type item.ty) else None
 
--- the kind of a parameter behind earlier ones, if it has one: it is named here first, and an effective item of the name
--- is a scalar
+-- what a heading and the effective items say of a parameter behind earlier ones: its kind, if it is named here first,
+-- and an effective item of the name is a scalar
 abbrev pub parameter_kind : (items : List Declared) (earlier : List (List ℕ)) → List ℕ → Option Kind
 parameter_kind items earlier name =
     if list_any (bytes_eq name) earlier then None else option_and_then scalar_kind (item_named name items)

@@ -94,7 +94,7 @@ offence_at entry = option_map (λ kind. (entry.0, kind)) entry.1
 abbrev pub offences : VerdictMap → MarkMap
 offences verdicts = from_entries (filter_map offence_at (entries verdicts))
 
--- the marks of a program
+-- the marks of a program: its phrases with an offence, and the kind of each one's first
 abbrev pub Marks : (program : Forest) → MarkMap
 Marks program = offences (Verdicts program)
 
