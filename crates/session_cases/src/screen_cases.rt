@@ -55,7 +55,7 @@ fn number_within(word: &[u8], least: u16, most: u16) -> Option<u16>
     Some(number)
 }
 
-/// A terminal of this size that has taken these bytes.
+/// A terminal of this size that shows what a run painted with these bytes.
 pub fn terminal_of(alloc: Global, size: (u16, u16), bytes: &[u8]) -> Option<Terminal>
     requires least_rows { FEWEST_ROWS ≤ size.0 }
     requires most_rows { size.0 ≤ MOST_ROWS }

@@ -64,7 +64,7 @@ pub(crate) fn phrase(alloc: Global, category: Category, text: &[u8]) -> Option<P
     }
 }
 
-/// The phrase of the category that a text among the words of a case reads as.
+/// The phrase of the category for which a word of a case stands, as the text of one.
 fn parsed(alloc: Global, category: Category, text: &[u8]) -> Option<Phrase>
     requires { length text.now ≤ 1000 }
     ensures well_formed { IfSome result (λ phrase. IsWellFormed category (plain_phrase phrase)) }

@@ -119,7 +119,7 @@ abbrev pub effective : (before : List Declared) → List Declared → List Decla
 effective before [] = before
 effective before (item ∷ rest) = effective (with_declared before item) rest
 
--- the effective items of a procedure in which these nodes stand, in listing order
+-- what the declarations among the nodes of a procedure say: its effective items, in listing order
 abbrev pub items_inside : Forest → List Declared
 items_inside inner = effective [] (all_declared inner)
 
@@ -202,7 +202,7 @@ kind_of_type ItemType.Fixed = Kind.Fixed
 kind_of_type ItemType.Bit = Kind.Bit
 kind_of_type (ItemType.Text n) = Kind.Text
 
--- the kind that the declaration of an item says, if the item is a scalar
+-- what the declaration of an item says of its kind, if the item is a scalar
 abbrev pub scalar_kind : Declared → Option Kind
 scalar_kind item = if item.size == 0 then Some (kind_of_type item.ty) else None
 

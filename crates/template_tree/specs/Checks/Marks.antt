@@ -76,7 +76,7 @@ procedure_verdicts program (Forest.cons label inner rest) =
     node_verdicts program record { label = label; inner = inner } (Forest.cons label inner Forest.nil)
     ++ procedure_verdicts program rest
 
--- a map of the verdict of each phrase, by the place of the phrase
+-- the verdict of each phrase of a program in a map, by the place of the phrase
 abbrev pub VerdictMap : Type 0
 VerdictMap = FinMap phrase_cmp (Option MarkKind)
 
