@@ -22,8 +22,8 @@ blanks x = prefix_len is_blank x
 abbrev pub unblanked : List ℕ → List ℕ
 unblanked x = drop (blanks x) x
 
--- a whole text without the blanks at both its ends, in place of its cut into tokens where that isn't made, as of a
--- comment's
+-- a whole text that isn't cut into tokens with their places, as a comment's isn't: it is read without the blanks at
+-- both its ends
 abbrev pub trimmed : List ℕ → List ℕ
 trimmed x = reverse (unblanked (reverse (unblanked x)))
 

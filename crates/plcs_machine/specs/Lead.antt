@@ -54,12 +54,12 @@ jump_target next d = address_at (pos next +ℤ d)
 abbrev pub address_of : PlainCode → PlainPlace → Option ℕ
 address_of code place = get code.addresses (place_of place)
 
--- a jump, with these operands and arguments
+-- what an instruction leads to that jumps, with these operands and arguments
 abbrev pub jumped : (next : ℕ) → List Value → List Argument → ℤ → Outcome Lead
 jumped next values arguments d =
     then_gives (if_there (jump_target next d)) (λ target. Outcome.gives (Lead.goes_on target values arguments))
 
--- what each instruction leads to that does an act, behind which the next instruction comes
+-- what an instruction leads to that does an act: behind it the next instruction comes
 abbrev pub then_acts : (next : ℕ) → Outcome Act → Outcome Lead
 then_acts next outcome = then_gives outcome (λ act. Outcome.gives (Lead.acts act next))
 

@@ -41,7 +41,7 @@ pub(crate) fn next_place<W: Work, C: CodeView<W>>(
     unreachable!()
 }
 
-/// The address to which a jump on the way to the next place goes; after the jump the next address is this.
+/// The address to which a jump on the way to the next place goes, where the address behind the jump is this.
 pub(crate) fn target(next: u32, by: i32) -> u32
     requires inside { has_target next by ≡ true }
     ensures { jump_target next by ≡ Some result }

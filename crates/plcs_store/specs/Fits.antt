@@ -95,7 +95,7 @@ declared_part item = (item.ty, item.size)
 abbrev pub variable_part : Variable → ItemType × ℕ
 variable_part variable = (variable.ty, variable.size)
 
--- the variables are those of the effective items, with their types and sizes, each once
+-- the variables of a frame that fits are those of the effective items, with their types and sizes, each once
 pub record AreVariables (items : List Declared) (variables : Variables) : Type 0 where
   pub once : IsDistinct bytes_eq (keys_of variables)
   pub same : (name : List ℕ) → option_map variable_part (variable_named name variables) ≡ option_map declared_part (item_named name items)
@@ -136,7 +136,7 @@ IsNoReference Cell.Unset = Unit {0}
 IsNoReference (Cell.Held value) = Unit {0}
 IsNoReference (Cell.Ref location) = ⊥
 
--- to this location a reference may go that fits: there is a cell of the kind, and it is no reference
+-- a reference that fits may go to this location: there is a cell of the kind there, and it is no reference
 pub record IsTarget (frames : List Frame) (kind : Kind) (location : Location) : Type 0 where
   pub variable : Variable
   pub there : variable_at frames location.frame location.name ≡ Some variable

@@ -53,7 +53,7 @@ test_going frames condition inside other =
 
 -- ---- loops
 
--- whether a loop is over where its variable has this value
+-- whether a step finds a loop over, where the variable of that has this value
 abbrev pub is_over : (limit step value : ℤ) → Bool
 is_over limit step value = if int_le (pos 0) step then int_lt limit value else int_lt value limit
 

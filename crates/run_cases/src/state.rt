@@ -61,8 +61,8 @@ fn tell_at(place: Place, told: &mut Told) {
     told.value(&place.point.0);
 }
 
-/// Tells what is in a frame: its procedure, its place, its loops from the outermost inward, and its variables in
-/// the order in which they are declared.
+/// Of what a run is in, tells a frame: its procedure, its place, its loops from the outermost inward, and its
+/// variables in the order in which they are declared.
 fn tell_frame(decls: &Decls, frame: &Frame, told: &mut Told) {
     told.text(" of ");
     told.value(&frame.procedure.0);

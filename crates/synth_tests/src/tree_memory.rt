@@ -171,7 +171,8 @@ fn is_as_before(tree: &Tree, before: &Seen) -> bool
     same && now.whole && before.whole && now.slots == before.slots
 }
 
-/// Makes the edit of a row at the path, and says why it is refused, if it is, as for want of memory.
+/// Makes the edit of a tree that a row names, at the path, and says why it is refused, if it is, as for want of
+/// memory.
 fn fault_of(alloc: Global, tree: &mut Tree, edit: Edit, at: &Path) -> Option<TreeFault>
     requires { IsTree tree.old }
     ensures { IsTree tree.new }

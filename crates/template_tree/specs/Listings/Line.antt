@@ -29,7 +29,7 @@ segment_text (PlainSegment.words bytes) parts = bytes
 segment_text (PlainSegment.part category) [] = part_text category None
 segment_text (PlainSegment.part category) (part ∷ parts) = part_text category part
 
--- the parts that are left after a segment of a line
+-- the parts of a node that are left behind a segment of its line
 abbrev pub parts_after : PlainSegment → List (Option PlainPhrase) → List (Option PlainPhrase)
 parts_after (PlainSegment.words bytes) parts = parts
 parts_after (PlainSegment.part category) [] = []
