@@ -16,7 +16,7 @@ configurations_before (undo ∷ undos) c = step_undone undo c ∷ configurations
 abbrev pub GoesBack : (old : List Undo) → PlainConfiguration → (new : List Undo) → PlainConfiguration → Type 0
 GoesBack old after new before = configurations_before old after ≡ before ∷ configurations_before new before
 
--- the configuration keeps the limits of a run: of its frames, and of the loops of the newest
+-- a configuration, as one before a run's, keeps the limits of runs: of its frames, and of the loops of the newest
 pub record KeepsRunLimits (c : PlainConfiguration) : Type 0 where
   pub frames : length c.frames ≤ most_frames
   pub loops : (frame : Frame) → newest_frame c.frames ≡ Some frame → length frame.loops ≤ most_loops

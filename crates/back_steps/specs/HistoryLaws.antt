@@ -8,7 +8,7 @@ use Rattle.plcs_store.specs.Resume.{resolved}
 use Rattle.plcs_store.specs.Undone.{Allows, undo_of}
 use Rattle.back_steps.specs.EarlierConfigurations.{configurations_before}
 
--- the record is one of a step
+-- the record is one that a history has of a step: it is not empty
 abbrev pub IsRecorded : Undo → Type 0
 IsRecorded undo = undo ≢ Undo.Empty
 

@@ -7,7 +7,8 @@ pub fn resuming_leaves_earlier()
     ensures { ResumingLeavesEarlier }
 {}
 
-/// The record of an act that a configuration allows, as each step does one, is never empty.
+/// A history has a record of each step: the record of an act that a configuration allows, as each step does
+/// one, is never empty.
 pub fn allowed_acts_are_recorded()
     ensures { AllowedActsRecorded }
 {}

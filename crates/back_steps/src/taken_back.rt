@@ -55,7 +55,7 @@ fn store_back(place: Place, location: &Location, cell: Cell, frames: &mut Frames
     put_newest_at(place, frames);
 }
 
-/// Puts the newest frame, if there is one, at the place.
+/// Of a step that is taken back: puts the newest frame, if there is one, back at the place.
 fn put_newest_at(place: Place, frames: &mut Frames)
     ensures { frames.new ≡ newest_at (plain_place place) frames.old }
 {
@@ -64,7 +64,7 @@ fn put_newest_at(place: Place, frames: &mut Frames)
     }
 }
 
-/// Takes the innermost loop of the newest frame off, if there is one.
+/// Of a step that is taken back: takes the innermost loop of the newest frame off again, if there is one.
 fn drop_loop(frames: &mut Frames)
     ensures { frames.new ≡ with_newest without_loop frames.old }
 {

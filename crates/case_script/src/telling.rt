@@ -83,7 +83,7 @@ impl Told {
         }
     }
 
-    /// Puts a value so behind what is told, and ends the line.
+    /// Puts a value so behind what is told of a case, and ends the line of its answer.
     pub fn value_line<T: Debug>(&mut self, value: &T) {
         self.value(value);
         self.put(b'\n');

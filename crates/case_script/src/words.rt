@@ -55,7 +55,7 @@ fn digit_of(byte: u8) -> Option<u32> {
     }
 }
 
-/// The value of a hexadecimal digit of a word's escape.
+/// The value of a hexadecimal digit in a word of a line, of which two stand for a byte.
 fn hex_of(byte: u8) -> Option<u8> {
     match byte {
         b'0'..=b'9' => Some(byte - b'0'),

@@ -28,7 +28,7 @@ with_clip name fragment [] = (name, fragment) ∷ []
 with_clip name fragment (pair ∷ pairs) =
     if bytes_eq name pair.0 then (pair.0, fragment) ∷ pairs else pair ∷ with_clip name fragment pairs
 
--- how many slots the fragments of clips as plain data have together
+-- how many slots clips as plain data have together, in their fragments
 abbrev pub slots_held : List Pair → ℕ
 slots_held pairs = sum_by slots_of (values_of pairs)
 
@@ -36,6 +36,6 @@ slots_held pairs = sum_by slots_of (values_of pairs)
 abbrev pub roomless_pairs : List Pair → List Pair
 roomless_pairs pairs = map (λ pair. (pair.0, roomless_fragment pair.1)) pairs
 
--- clips as plain data as they are kept: under each name its fragment, whole and without the room of its lists
+-- names with their fragments, in order, as clips keep them: each fragment whole and without the room of its lists
 abbrev pub kept_pairs : List Pair → List Pair
 kept_pairs pairs = map (λ pair. (pair.0, kept_fragment pair.1)) pairs

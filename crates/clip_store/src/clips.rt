@@ -11,7 +11,7 @@ use plcs_base::{Name, OutOfMemory};
 use std::alloc::Global;
 use std::marker::Model;
 
-/// Why a fragment isn't put under a name.
+/// Why a fragment isn't put under a name among the clips.
 #[derive(Clone, Copy, Debug, PartialEq, Eq)]
 pub enum ClipFault {
     /// There would be more than 64 names, or more than 20,000 slots in all.
@@ -132,7 +132,7 @@ impl Clips {
         Ok(())
     }
 
-    /// How many clips are held under other names.
+    /// How many of the clips have other names than this one.
     fn other_names(&self, name: &Name) -> usize
         ensures { result ≡ length (without_name name.now self.now.pairs) }
     {

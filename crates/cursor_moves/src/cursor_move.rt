@@ -14,7 +14,7 @@ pub enum Move {
 }
 
 impl Move {
-    /// The move to the node at the path, or nowhere where no path is found.
+    /// The move of the cursor that goes to the node at the path, or nowhere where no path is found.
     pub(crate) fn to_node(path: Option<Path>) -> Move
         ensures { moved_to result ≡ option_map (λ path. record { path = path.items; part = None }) path }
     {

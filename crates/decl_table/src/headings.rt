@@ -27,7 +27,8 @@ impl Model for Headings {
 }
 
 impl Headings {
-    /// No effective headings, before the slot of any is put under its name.
+    /// The effective headings of a table of declarations that has none yet, before the slot of any is put under
+    /// its name.
     pub(crate) fn new(alloc: Global) -> Headings
         ensures { result ≡ [] }
     {

@@ -29,8 +29,8 @@ pub(crate) enum TextCall {
     Save,
 }
 
-/// What the word of a case that makes a text longer says of its lines: they stand all at level 1, each a level
-/// deeper than the one before, from level 1 on, or each a level higher, down to level 1.
+/// What the word that a case begins with says of the lines by which it makes a text longer: they stand all at
+/// level 1, each a level deeper than the one before, from level 1 on, or each a level higher, down to level 1.
 #[derive(Clone, Copy)]
 pub(crate) enum Way {
     Level,
@@ -61,7 +61,7 @@ pub(crate) enum Change {
     Link,
 }
 
-/// A source that is read, or a sink that is written to, by the word that a case begins with.
+/// The words that cases of streams begin with: a source that is read, or a sink that is written to.
 #[derive(Clone, Copy)]
 pub(crate) enum StreamCall {
     Source,

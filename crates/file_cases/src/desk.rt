@@ -171,7 +171,7 @@ pub(crate) fn tell<T: Debug>(answer: &T, told: &mut Told) -> Option<()> {
     Some(())
 }
 
-/// Tells how many slots the program has that was loaded, or why none was.
+/// Tells how many slots the program has that was loaded from the desk's files, or why none was.
 fn tell_slots(loaded: Result<u32, FileRefusal>, told: &mut Told) -> Option<()> {
     match loaded {
         Ok(slots) => {

@@ -103,7 +103,7 @@ fn compared(tree: &Tree, text: &[u8]) -> Reading
     }
 }
 
-/// Compares what is put of a listing with what is awaited.
+/// Compares a listing, as it is put, with the text that was read as that listing.
 #[derive(Drop)]
 struct Listed<'a> {
     left: &'a [u8],

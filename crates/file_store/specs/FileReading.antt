@@ -35,7 +35,7 @@ abbrev pub LoadingSays : Option FileMap → List ℕ → Result PlainTree FileRe
 LoadingSays stored name (Ok tree) = Holds stored name (λ x. IsListingOf x tree)
 LoadingSays stored name (Err refusal) = IsLoadRefused stored name refusal
 
--- a file of a name that is loaded as a tree is loaded as that tree without its room, too
+-- what the file of a name is loaded as, where that is a tree, may as well be that tree without its room
 abbrev pub LoadingIgnoresRoom : Type 0
 LoadingIgnoresRoom =
     (stored : Option FileMap) (name : List ℕ) (tree : PlainTree) → LoadingSays stored name (Ok tree)

@@ -32,6 +32,6 @@ listed_lines level left (Forest.cons label inner rest) =
 abbrev pub listed_program : Forest → List ListedLine
 listed_program = listed_lines 0 program_sections
 
--- the bytes of these lines of a listing, each with its line end
+-- the bytes of these listed lines, each with its line end, whether a node begins in it or not
 abbrev pub text_of_lines : List ListedLine → List ℕ
 text_of_lines rows = bytes_of_lines (map (λ row. row.line) rows)

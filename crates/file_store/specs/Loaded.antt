@@ -25,17 +25,16 @@ abbrev pub BeginsListing : List ListedLine → Type 0
 BeginsListing rows =
     (items : Forest) × (more : List ListedLine) × IsProgram items × (listed_program items ≡ rows ++ more)
 
--- in how many of these lines a node begins; the bytes of a file are refused as the listing of a tree where such lines
--- are too many
+-- how many nodes begin in these lines of a file, whose bytes go wrong as the listing of a tree where they are too many
 abbrev pub opened : List ListedLine → ℕ
 opened [] = 0
 opened (row ∷ rows) = (if row.opens then 1 else 0) + opened rows
 
--- trouble in a line: a node begins in it whose path has too many numbers, one more than the line's level
+-- trouble in a line of a file: a node begins in it whose path has too many numbers, one more than the line's level
 abbrev pub OpensTooDeep : ListedLine → Type 0
 OpensTooDeep row = (row.opens ≡ true) × (deepest_path ≤ row.line.level)
 
--- trouble in a line: a node begins in it, and as many as may be begin before it
+-- trouble in a line of a file: a node begins in it, and as many as may be begin before it
 abbrev pub OpensTooMany : List ListedLine → ListedLine → Type 0
 OpensTooMany before row = (row.opens ≡ true) × (most_slots ≤ opened before)
 
@@ -60,7 +59,8 @@ NoListing x rows rest =
     × ((items : Forest) (y : List ℕ) → ¬ (Spells items (text_of_lines rows ++ (line ++ (10 ∷ y))))))
     ⊎ (HasNoEnd rest × ((items : Forest) → ¬ (Spells items x)))
 
--- behind lines without trouble stands a line with which some listing goes on, and of which this holds
+-- in the bytes of a file, behind lines without trouble, stands a line with which some listing goes on, and of which
+-- this holds
 abbrev pub NextLine : List ℕ → (List ListedLine → ListedLine → Type 0) → Type 0
 NextLine x P =
     (rows : List ListedLine) × (row : ListedLine) × (rest : List ℕ)
@@ -90,12 +90,12 @@ abbrev pub Loaded : List ℕ → Result PlainTree FileRefusal → Type 0
 Loaded x (Ok tree) = IsListingOf x tree
 Loaded x (Err refusal) = RefusalSays x refusal
 
--- the program is what the bytes of a listing file are read as, unless memory ran out
+-- the bytes of a file are the listing of no other program than this, unless memory ran out
 abbrev pub ReadsOnly : Result PlainTree FileRefusal → Forest → Type 0
 ReadsOnly (Ok tree) items = Bare tree.items ≡ Bare items
 ReadsOnly (Err refusal) items = refusal ≡ FileRefusal.OutOfMemory
 
--- the bytes of a listing file are refused for this, unless memory ran out
+-- the bytes of a file go wrong as a listing for no other reason than this, unless memory ran out
 abbrev pub RefusesOnly : Result PlainTree FileRefusal → FileRefusal → Type 0
 RefusesOnly (Ok tree) refusal = ⊥
 RefusesOnly (Err own) refusal = (own ≡ refusal) ⊎ (own ≡ FileRefusal.OutOfMemory)

@@ -89,7 +89,7 @@ struct Reader {
 }
 
 impl Reader {
-    /// The reader once it has taken the line.
+    /// The reader of a listing once it has taken the line.
     fn taken(mut self, alloc: Global, line: &[u8]) -> Result<Reader, FileRefusal>
         requires few { (come_of self).lines < longest_listing }
         requires opened { (come_of self).opened ≤ most_slots }

@@ -23,7 +23,7 @@ pub fn save<F: Files>(tree: &Tree, name: &[u8], files: &mut F) -> Result<(), Fil
     Ok(files.commit()?)
 }
 
-/// Saves a tree as the listing file of the name `RESCUE`.
+/// Saves a tree, as any tree is saved, as the listing file of the name `RESCUE`.
 pub fn rescue<F: Files>(tree: &Tree, files: &mut F) -> Result<(), FileRefusal>
     requires tree { IsTree tree.now }
     ensures { Saves (codes "RESCUE") (Listing tree.now.items) result (F.told files.old) (F.told files.new) }

@@ -70,9 +70,9 @@ impl Crash {
         session(source, empty_disk(self.alloc), &mut self.given)
     }
 
-    /// After how many calls of the session so many keys were given, and no more, which are those to be
-    /// recovered after a crash. A session with one key more goes on behind one with fewer, so while it has done
-    /// fewer calls than one with all the keys up to the next, so many were given.
+    /// After how many calls of the session over the journal so many keys were given, and no more, which are
+    /// those to be recovered after a crash. A session with one key more goes on behind one with fewer, so while
+    /// it has done fewer calls than one with all the keys up to the next, so many were given.
     fn end_of(&mut self, keys: &[u8], given: usize) -> Option<usize> {
         let calls = self.whole.done().len();
         if given >= keys.len() {

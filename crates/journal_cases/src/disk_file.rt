@@ -25,7 +25,7 @@ pub(crate) fn play(
     }
 }
 
-/// Tells how a session over the journal's file with these new keys goes, up to their end.
+/// Tells how a session goes over the journal in its file of the system, with these new keys, up to their end.
 fn tell_session(rt: &HostRuntime, keys: &[u8], told: &mut Told) -> Option<()> {
     let source = source_of(told.alloc(), keys)?;
     match StdDisk::open(rt) {

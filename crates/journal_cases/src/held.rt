@@ -116,7 +116,7 @@ fn opened(source: MemSource, disk: MemDisk) -> (Held, Result<(), DiskFault>) {
     }
 }
 
-/// The disk of the journal once it was to be cleared, if it gave a key.
+/// The disk of the journal that the script held, once that was to be cleared, if it gave a key.
 fn cleared(journal: Journal) -> Option<(MemDisk, Result<(), DiskFault>)> {
     if journal.given() == 0 {
         return None;

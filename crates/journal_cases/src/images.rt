@@ -27,7 +27,7 @@ impl Images {
         }
     }
 
-    /// The images that were found last.
+    /// The images of a disk that were found last for a case of the journal.
     pub(crate) fn all(&self) -> &[Vec<u8>] {
         self.all.as_slice()
     }

@@ -38,8 +38,8 @@ fn is_cut(bytes: &[u8], most: usize, failing: u32, keys: &[u8], told: &mut Told)
     Some(disk.file().has_failed())
 }
 
-/// Plays a session over the file with the new keys of this source, up to an answer that isn't one: tells that answer
-/// and the keys that it gave, and hands back the disk as it stands.
+/// Plays a session over the file, of which a call may fail, with the new keys of this source, up to an answer
+/// that isn't one: tells that answer and the keys that it gave, and hands back the disk as it stands.
 fn tell_session(source: MemSource, file: Stumbling, told: &mut Told) -> FileDisk<Stumbling> {
     match JournalKeys::open(source, FileDisk::new(file)) {
         Ok(mut journal) => {

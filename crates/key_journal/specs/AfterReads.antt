@@ -43,7 +43,8 @@ pub record CountsEnds {S D : Type 0} (left : S → Option (List ℕ)) (past : D 
   pub stays : first.ended ≡ false → IsSome (left first.inner) → past now.disk ≢ [] →
       (ends ≡ 0) ⊎ (now.ended ≡ true)
 
--- how many answers of reads were the end, after a read that wasn't Ok; where both are told, it took no key after the end
+-- over reads of which the last wasn't Ok, how many answers were the end; where both are told, no key was taken after
+-- the end
 pub record CountsJournalFault {S D : Type 0} (left : S → Option (List ℕ)) (past : D → List DiskState)
     (first now : PlainJournalKeys S D) (last : List ℕ) : Type 0 where
   pub ends : ℕ

@@ -4,7 +4,7 @@ use Rattle.key_journal.specs.Crash.{LeavesOnly, Throughout}
 use Rattle.key_journal.specs.Disk.{DiskState, MayLeave, Newest}
 use Rattle.key_journal.specs.Recovered.{recovered, kept_keys}
 
--- a crash just before the journal is cleared could leave these keys
+-- what a crash could leave of a journal just before it is cleared: these keys
 abbrev pub CouldLeave : List DiskState → List ℕ → Type 0
 CouldLeave [] keys = ⊥
 CouldLeave (state ∷ past) keys =

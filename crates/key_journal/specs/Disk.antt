@@ -22,11 +22,11 @@ Leaves synced [] image = image ≡ synced
 Leaves synced (range ∷ pending) image =
     (earlier : List ℕ) × Leaves synced pending earlier × Torn range.0 range.1 earlier image
 
--- a crash at this moment may leave this image of the disk
+-- what a crash may leave of a disk in this state: this image
 abbrev pub MayLeave : DiskState → List ℕ → Type 0
 MayLeave state image = Leaves state.synced state.pending image
 
--- this holds of the newest of the states of a disk that tells; of one that doesn't nothing is said
+-- of a disk that tells its states this holds of the newest of them; of one that doesn't nothing is said
 abbrev pub Newest : (DiskState → Type 0) → List DiskState → Type 0
 Newest P [] = Unit {0}
 Newest P (state ∷ past) = P state
@@ -81,7 +81,7 @@ WritesKeepImages = (state : DiskState) (at : ℕ) (piece : List ℕ) → at ≤ 
     ReadsAsImage state →
     ReadsAsImage (with_range state at (length piece) (overwritten state.bytes at piece))
 
--- a write to any disk that was done in part keeps what it reads as among these images, too
+-- a write to a disk that was done in part keeps what the disk reads as among the images that a crash may leave of it
 abbrev pub TearsKeepImages : Type 0
 TearsKeepImages = (state : DiskState) (at count : ℕ) (bytes : List ℕ) →
     Torn at count state.bytes bytes → ReadsAsImage state → ReadsAsImage (with_range state at count bytes)

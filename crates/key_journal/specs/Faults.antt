@@ -7,6 +7,6 @@ abbrev pub source_fault : DiskFault → SourceFault
 source_fault DiskFault.Failed = SourceFault.Failed
 source_fault DiskFault.OutOfMemory = SourceFault.OutOfMemory
 
--- the fault of a disk that wants memory
+-- the fault of a disk that a source on it answers as want of memory
 abbrev pub memory_fault : DiskFault
 memory_fault = DiskFault.OutOfMemory

@@ -68,7 +68,7 @@ is_end (Ok zero) = true
 is_end (Ok (suc count)) = false
 is_end (Err fault) = false
 
--- a read gave at most one byte, which is counted, and it is noted whether it was the end
+-- a read of a journal gave at most one byte, a key, which is counted, and it is noted whether it was the end
 pub record CountsKey {S D E : Type 0} (before now : PlainJournalKeys S D) (result : Result ℕ E)
     : Type 0 where
   pub one : IfOk result (λ count. count ≤ 1)

@@ -83,7 +83,7 @@ impl<S: Source, D: Disk> JournalKeys<S, D> {
         self.given
     }
 
-    /// Whether the last answer of the journal was the end of keys.
+    /// Whether the last answer of this journal of keys was the end of them.
     pub fn ended(&self) -> bool
         ensures { result ≡ self.now.ended }
     {

@@ -13,8 +13,8 @@ use super::writes::write_synced;
 use super::{Disk, DiskFault};
 use synth_outside::{Source, SourceFault};
 
-/// The next key: the next one that is kept on the disk, or else a new one, which is taken from the source and
-/// kept before it is given.
+/// Gives the next key that is kept on the disk, or else a new one: takes it from the source, and keeps it on
+/// the disk before it is given.
 pub(crate) fn next_key<S: Source, D: Disk>(
     inner: &mut S,
     disk: &mut D,

@@ -33,7 +33,7 @@ impl Piece {
     }
 }
 
-/// A call on a disk that was done and that changed what a crash may leave.
+/// A call on a disk in memory that was done and that changed what a crash may leave.
 #[derive(Debug, Drop)]
 pub enum DiskCall {
     /// The piece was written from this byte on, counted from 0.

@@ -22,7 +22,7 @@ pub fn put_reading(category: &[u8], text: &[u8], told: &mut Told) -> Option<()> 
     Some(())
 }
 
-/// What the parser answers, for a text that isn't too long to be asked for.
+/// In a case on a text that is parsed, what the parser answers, unless the text is too long for it to be asked.
 fn parsed(alloc: Global, category: Category, text: &[u8]) -> Option<Result<Phrase, PhraseFault>> {
     if text.len() < 4_000_000_000 {
         Some(parse(alloc, category, text))
@@ -78,7 +78,8 @@ fn is_copied(alloc: Global, phrase: &Phrase, text: &[u8]) -> bool {
     }
 }
 
-/// Whether the text that is shown of a phrase is parsed as the same phrase, of which the same is shown.
+/// Whether, in a case on texts that are shown, the text of a phrase is parsed as the same phrase, of which the
+/// same is shown.
 fn is_read_again(alloc: Global, phrase: &Phrase, text: &[u8]) -> bool {
     match parsed(alloc, phrase.category(), text) {
         Some(Ok(again)) => same_phrase(phrase, &again) && shown(alloc, &again).as_bytes() == text,

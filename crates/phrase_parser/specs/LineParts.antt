@@ -29,7 +29,7 @@ cut_from inside divider (byte ∷ rest) =
 abbrev pub cut_at : List ℕ → List ℕ → Option (List ℕ × List ℕ)
 cut_at divider text = cut_from false divider text
 
--- the fixed texts that stand behind a part of a category in the lines of a listing
+-- the fixed texts that divide the parts of a line of a listing: those that stand behind a part of a category
 pub data Divides : Category → List ℕ → Type 0 where
   -- `DO {variable} = {expression} TO {expression} BY {expression};`
   first_value : Divides Variable (codes " = ")

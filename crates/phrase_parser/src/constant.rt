@@ -14,7 +14,7 @@ pub fn bit_constant(text: &[u8]) -> Option<bool>
     }
 }
 
-/// The bit that a digit of a bit constant at the front of a text stands for.
+/// In a bit constant at the front of a text, the bit that a digit stands for.
 fn bit_value(digit: u8) -> Option<bool>
     ensures { result ≡ bit_value digit }
 {

@@ -9,6 +9,6 @@ use Rattle.plcs_base.specs.declared.mark.MarkKind.{MarkKind}
 abbrev pub phrase_cmp : PhraseAt → PhraseAt → Ordering
 phrase_cmp = then_cmp (on (λ at. at.slot.0) nat_cmp) (on (λ at. at.part) nat_cmp)
 
--- the marks: what is wrong with each phrase that has a mark; the others are not in the map
+-- a map of marks of phrases: what is wrong with each phrase that has a mark; the others are not in the map
 abbrev pub MarkMap : Type 0
 MarkMap = FinMap phrase_cmp MarkKind

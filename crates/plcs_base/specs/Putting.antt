@@ -1,8 +1,8 @@
--- Several bytes put in turn.
+-- What follows for bytes that are put in turn: putting some and then others puts them joined.
 use Rattle.std.proofs.Common.{ℕ, List, [], ◌∷◌, ◌++◌, ◌≡◌, subst}
 use Rattle.plcs_base.specs.Put.{PutsAll, puts_nothing, puts_next, PutsInTurn}
 
--- putting some bytes and then some more puts the ones followed by the others
+-- several bytes are put in turn: putting some and then some more puts the ones followed by the others
 pub puts_append : {Out : Type 0} {puts : Out → ℕ → Out → Type 0} {before between after : Out} {first second : List ℕ}
     → PutsAll puts before first between → PutsAll puts between second after → PutsAll puts before (first ++ second) after
 puts_append puts_nothing more = more
@@ -18,7 +18,7 @@ pub puts_same : {Out : Type 0} {puts : Out → ℕ → Out → Type 0} {before a
     → bytes ≡ same → PutsAll puts before bytes after → PutsAll puts before same after
 puts_same {puts = puts} {before = before} {after = after} e done = subst (λ bytes. PutsAll puts before bytes after) e done
 
--- putting bytes and then one more byte
+-- putting bytes and then one more byte puts them joined
 pub puts_behind : {Out : Type 0} {puts : Out → ℕ → Out → Type 0} {before between after : Out} {byte : ℕ} {bytes : List ℕ}
     → PutsAll puts before bytes between → puts between byte after → PutsAll puts before (bytes ++ (byte ∷ [])) after
 puts_behind done one = puts_append done (puts_one one)

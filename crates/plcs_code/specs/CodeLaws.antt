@@ -1,4 +1,4 @@
--- The laws of code.
+-- The laws of code: its lengths, jumps, spans, places, addresses and entries.
 use Rattle.std.specs.Prelude.{◌≡◌, ◌↔◌, ℕ, ◌+◌, ◌≤◌, ℤ, ◌+ℤ◌, pos, Bool, false, true, All, IsSome, length, List, map, take, drop, Option, None, Some, is_some, not, ◌&&◌, ◌==◌, option_and_then, option_map, slice_get}
 use Rattle.std.specs.FinMap.{get}
 use Rattle.plcs_base.specs.Mark.{MarkMap}

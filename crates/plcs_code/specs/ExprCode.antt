@@ -1,4 +1,5 @@
--- The code of phrases: that of the operands from left to right, and then the operator; parentheses add nothing.
+-- The code of phrases: that of the operands from left to right, and then the operator; parentheses add nothing. Also
+-- the expressions and variables of a phrase from which its code is made.
 use Rattle.std.specs.Prelude.{ℕ, ◌+◌, List, [], ◌∷◌, ◌++◌, Option, Some, None}
 use Rattle.plcs_grammar.specs.PlainPhrase.{PlainExpr, PlainExprs, PlainVarRef, PlainPhrase}
 use Rattle.template_tree.specs.Positions.Place.{place_at}
@@ -51,7 +52,7 @@ abbrev pub arguments_instrs : PlainExprs → List PlainInstr
 arguments_instrs PlainExprs.nil = []
 arguments_instrs (PlainExprs.cons a rest) = argument_instrs a ++ arguments_instrs rest
 
--- the code of the items in the phrase of a GET in a slot, of which the first has this number: each is a step of its own
+-- the code of the phrase of a GET in a slot, from the item of this number on: that of each item is a step of its own
 abbrev pub items_instrs : (slot k : ℕ) → List PlainVarRef → List PlainInstr
 items_instrs slot k [] = []
 items_instrs slot k (target ∷ targets) =
@@ -92,12 +93,13 @@ listed_exprs other = PlainExprs.nil
 abbrev pub listed_instrs : (make : ℕ → PlainInstr) → PlainExprs → List PlainInstr
 listed_instrs make es = exprs_instrs es ++ (make (expr_count es) ∷ [])
 
--- the variables of which the code of a phrase is made that is the list of a GET: none where no list stands in the part
+-- the variables of a phrase, the list of a GET, from which the code of that phrase is made: none where no list stands
+-- in the part
 abbrev pub get_targets : Option PlainPhrase → List PlainVarRef
 get_targets (Some (PlainPhrase.variable_list targets)) = targets
 get_targets other = []
 
--- the variable with which a loop counts, as the code of the phrase in a part has it, if it is there
+-- the variable with which a loop counts, from which the code of the phrase in a part is made, if it is there
 abbrev pub counter_name : Option PlainPhrase → Option (List ℕ)
 counter_name (Some (PlainPhrase.variable_name name)) = Some name
 counter_name other = None

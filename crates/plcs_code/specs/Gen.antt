@@ -69,7 +69,7 @@ own_length marks items label = length (own_instrs marks items label [])
 abbrev pub length_around : MarkMap → ItemMap → Label → (lengths : List ℕ) → ℕ
 length_around marks items label lengths = own_length marks items label + sum lengths
 
--- how many instructions the code of each of the nodes in order has
+-- how many instructions each of the nodes in order has in code that is made afresh
 abbrev pub node_lengths : MarkMap → ItemMap → Forest → List ℕ
 node_lengths marks items Forest.nil = []
 node_lengths marks items (Forest.cons label inner rest) =
@@ -100,7 +100,7 @@ node_spans marks items start gap (Forest.cons label inner rest) =
     (length (option_to_list around.between)) inner
     ++ node_spans marks items (start + whole + gap) 0 rest)
 
--- whether nodes of the sort have code: declarations have none
+-- whether the code of a program has any of nodes of the sort: declarations have none
 abbrev pub sort_has_code : Sort → Bool
 sort_has_code Sort.Main = true
 sort_has_code Sort.Procedure = true

@@ -1,4 +1,5 @@
--- Where a run comes to that goes on in code: by jumps alone at the end of a statement, and at once where a body begins.
+-- Where a run comes to that goes on in code: by jumps alone at the end of a statement, and at once where a body begins;
+-- and that the step of a place stands at its address alone.
 use Rattle.std.specs.Prelude.{◌≡◌, ℕ, zero, suc, ◌+◌, ◌<◌, ◌≤◌, ℤ, ◌+ℤ◌, pos, true, List, length, Some, slice_get}
 use Rattle.std.specs.FinMap.{get}
 use Rattle.std.specs.List.{list_any}
@@ -32,7 +33,8 @@ pub record Lands (instrs : List PlainInstr) (address : ℕ) (place : PlainPlace)
   pub few : address + jumps < length instrs
   pub by : LandsBy instrs place jumps address
 
--- at the end of the code of a statement a run comes by jumps alone to where it goes on once the statement is done
+-- where a run comes to at the end of the code of a statement: by jumps alone to where it goes on once the statement is
+-- done
 abbrev pub StatementsGoOn : Type 0
 StatementsGoOn =
     (marks : MarkMap) (items : ItemMap) (program : Forest) (slot : ℕ) (found : Site) → IsProgram program
@@ -42,7 +44,8 @@ StatementsGoOn =
 
 -- ---- where bodies begin
 
--- how many instructions of the code of a node stand before that of what stands inside it
+-- where a run comes to the body of a node: so many instructions of the code of the node stand before that of what
+-- stands inside it
 abbrev pub length_before : MarkMap → ItemMap → Label → (inner : Forest) → ℕ
 length_before marks items label inner =
     length (pieces marks items label).before + length (option_to_list (jumps marks items label (node_lengths marks items inner)).ahead)
@@ -69,7 +72,8 @@ SecondBodiesBegin =
 
 -- ---- where steps stand
 
--- a run in code comes to a step that ends at a place, whose slot stands but once, at the address of the place
+-- where a run that goes on in code comes to the step of a place, whose slot stands but once, it comes to the address of
+-- that place
 abbrev pub StepsHaveAddresses : Type 0
 StepsHaveAddresses =
     (marks : MarkMap) (items : ItemMap) (program : Forest) (place : PlainPlace) (found : Site) (address : ℕ)

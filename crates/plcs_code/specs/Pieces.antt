@@ -25,7 +25,8 @@ abbrev pub has_empty : List (Option PlainPhrase) → Bool
 has_empty [] = false
 has_empty (place ∷ parts) = not (is_some place) || has_empty parts
 
--- whether one of the parts of the node in the slot is marked, of which the first has this number
+-- whether one of the parts of the node in the slot is marked, so that a piece stops a run; the first of them has this
+-- number
 abbrev pub has_marked_part : MarkMap → (slot part : ℕ) → List (Option PlainPhrase) → Bool
 has_marked_part marks slot part [] = false
 has_marked_part marks slot part (place ∷ parts) = is_some (get marks (phrase_at slot part)) || has_marked_part marks slot (part + 1) parts
@@ -236,12 +237,12 @@ own_jumps marks label before first others =
 
 -- ---- by the items of a program, and by the lengths of the codes inside
 
--- the length of the first code inside a node, on which its jumps depend
+-- in the table of code, the length of the first code inside a node, on which the node's jumps depend
 abbrev pub first_length : List ℕ → ℕ
 first_length [] = 0
 first_length (n ∷ ns) = n
 
--- the length of the codes inside a node behind the first one, on which its jumps depend
+-- in the table of code, the length of the codes inside a node behind the first one, on which the node's jumps depend
 abbrev pub other_lengths : List ℕ → ℕ
 other_lengths [] = 0
 other_lengths (n ∷ ns) = sum ns

@@ -1,4 +1,4 @@
-//! The effective headings, found by name.
+//! The effective headings in the code of a program, found by name.
 ghost use Rattle.std.specs.Prelude.{◌≡◌, OnOk};
 ghost use Rattle.std.specs.FinMap.{empty, get};
 ghost use Rattle.template_tree.specs.Checks.Environment.{heading_of};

@@ -155,7 +155,7 @@ impl Tally {
         }
     }
 
-    /// How many instructions were counted, if there aren't too many.
+    /// How many instructions were laid into the tally, if there aren't too many.
     pub(crate) fn end(&self) -> Result<u32, OutOfMemory>
         ensures count { IfOk result (λ n. n ≡ self.now.count) }
         ensures short { IfOk result (λ n. n ≤ most_instrs) }
@@ -167,7 +167,7 @@ impl Tally {
         Ok(self.count)
     }
 
-    /// Counts one instruction more.
+    /// Counts one instruction more in the tally.
     fn raise(&mut self)
         ensures { (self.new.failed ≡ false → self.old.failed ≡ false) ×
             (self.new.failed ≡ false → self.new.count ≡ self.old.count + 1) }

@@ -33,8 +33,8 @@ pub(crate) struct Laid<W> {
     pub(crate) spans: Vec<NodeSpan>,
 }
 
-/// The jumps of a node that are still to be laid in the code of the program, behind nodes inside it, each one
-/// instruction or none.
+/// In the code of a program that is laid node by node, the jumps of a node that are still to be laid, behind
+/// nodes inside it, each one instruction or none.
 #[derive(Drop)]
 struct JumpsBehind {
     /// Behind the code of the first of them.
@@ -158,7 +158,7 @@ impl<W: Work> Laid<W> {
         Ok(())
     }
 
-    /// Notes where the code of a node begins, which has this length.
+    /// Notes where the code of a node stands in the code that is laid: from here on, with this length.
     fn begin(&mut self, node: &Node, whole: u32) -> Result<(), OutOfMemory>
         ensures { OnOk result (self.new ≡ with_span (record {
           slot = record { 0 = node.now.label.slot };
@@ -212,8 +212,8 @@ impl<W: Work> Laid<W> {
         })
     }
 
-    /// Lays, in the code of the program, what stands in a node's own code before the nodes inside it, and
-    /// answers how much that is.
+    /// Lays the code of the program node by node: of this node what stands in its own code before the nodes
+    /// inside it; and answers how much that is.
     fn lay_before<M: Marked>(
         &mut self,
         alloc: Global,

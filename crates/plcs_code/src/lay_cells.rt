@@ -50,7 +50,8 @@ fn lay_parameter<W: Work, O: InstrOut<W>>(
     }
 }
 
-/// The effective item for which the cell of a parameter of the name is made, or `None` where none has it.
+/// The effective item of the name, for which code is laid that makes the cell of a parameter, or `None` where
+/// none has it.
 fn item_named<'a>(items: &'a [Declared], name: &Name) -> Option<&'a Declared>
     ensures { option_map (λ item. item.now) result ≡ item_named name.now items.now }
 {

@@ -79,7 +79,7 @@ fn lay_argument<W: Work, O: InstrOut<W>>(alloc: Global, argument: &Expr, out: &m
     out.put(Instr::Dummy, work);
 }
 
-/// Lays the instruction of a call with so many arguments.
+/// Of the code of a phrase that is a call, lays the instruction that calls, with so many arguments.
 fn put_call<W: Work, O: InstrOut<W>>(name: &Name, arguments: usize, out: &mut O, work: &mut W)
     ensures { LaysAll O.lays out.old (W.counts work.old) (PlainInstr.call name.now arguments ∷ []) out.new
         (W.counts work.new) }
@@ -91,7 +91,8 @@ fn put_call<W: Work, O: InstrOut<W>>(name: &Name, arguments: usize, out: &mut O,
     out.put(Instr::Call(name_of(name), arguments as u32), work);
 }
 
-/// Lays the code of the phrase of a GET in a slot: that of each of its items, which is a step of its own.
+/// Lays the code of a phrase, the list of variables of the GET in a slot: that of each of its items, which is a
+/// step of its own.
 pub(crate) fn lay_items<W: Work, O: InstrOut<W>>(
     alloc: Global,
     slot: Slot,
@@ -109,7 +110,7 @@ pub(crate) fn lay_items<W: Work, O: InstrOut<W>>(
     }
 }
 
-/// Lays the place of an item in the code of a GET's phrase, at which a step ends.
+/// Lays, in the code of a GET's phrase, the place of one of its items, at which a step ends.
 fn put_item_place<W: Work, O: InstrOut<W>>(slot: Slot, k: usize, out: &mut O, work: &mut W)
     ensures { LaysAll O.lays out.old (W.counts work.old) (PlainInstr.place (place_at slot.0 k) ∷ []) out.new
         (W.counts work.new) }

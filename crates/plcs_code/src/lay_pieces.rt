@@ -73,7 +73,7 @@ pub(crate) fn lay_first<W: Work, O: InstrOut<W>>(
     }
 }
 
-/// Lays the piece before a loop that counts: its first value, its limit and its step.
+/// Lays the piece of a statement that enters a loop that counts: its first value, its limit and its step.
 pub(crate) fn lay_enter<W: Work, O: InstrOut<W>>(
     alloc: Global,
     node: &Node,

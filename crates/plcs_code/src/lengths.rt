@@ -178,7 +178,7 @@ fn own_length<W: Work, M: Marked, D: Scope>(
     Ok(length)
 }
 
-/// The sum of two lengths, unless code of that length would be too long.
+/// The sum of two lengths of codes that are counted ahead, unless code of that length would be too long.
 fn sum_within(one: u32, other: u32) -> Result<u32, OutOfMemory>
     requires one { one ≤ most_instrs }
     requires other { other ≤ most_instrs }

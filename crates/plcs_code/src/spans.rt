@@ -99,7 +99,7 @@ fn has_code(kind: NodeKind) -> bool
     }
 }
 
-/// Whether nodes of the sort have code, and so spans.
+/// Whether nodes of the sort have code, so that there are spans to find by their slots.
 fn sort_has_code(sort: Sort) -> bool
     ensures { result ≡ sort_has_code sort }
 {

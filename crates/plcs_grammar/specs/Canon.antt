@@ -90,10 +90,10 @@ Canon (PlainPhrase.name_list names) = joined (λ name. name) names
 Canon (PlainPhrase.greatest_length n) = decimal n
 Canon (PlainPhrase.comment bytes) = bytes
 
--- the greatest length of the canonical text of a phrase that is told; a longer one is told as this
+-- the greatest length that the canonical text of a phrase is told to have; a longer one is told to have it too
 abbrev pub longest_shown : ℕ
 longest_shown = 4294967295
 
--- the canonical text of the phrase reads as that same phrase
+-- a phrase is well formed: its canonical text reads as that same phrase
 abbrev pub IsWellFormed : Category → PlainPhrase → Type 0
 IsWellFormed category phrase = Reads category (Canon phrase) phrase

@@ -18,7 +18,7 @@ tokens_of pieces = map (λ piece. piece.token) pieces
 abbrev pub blanks : List ℕ → ℕ
 blanks x = prefix_len is_blank x
 
--- the text behind the blanks that it begins with, where the first of its pieces stands
+-- a whole text behind the blanks that it begins with, where the first token into which it is cut has its place
 abbrev pub unblanked : List ℕ → List ℕ
 unblanked x = drop (blanks x) x
 

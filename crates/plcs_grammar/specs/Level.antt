@@ -33,7 +33,7 @@ abbrev pub IsNoCall : PlainVarRef → Type 0
 IsNoCall (PlainVarRef.simple name) = Unit {0}
 IsNoCall (PlainVarRef.subscripted name index) = IsTrue (not (is_builtin_name name))
 
--- the tokens are the name alone, as a variable without a subscript is
+-- the tokens of an expression are the name alone, as those of a variable without a subscript are
 abbrev pub IsNameToken : List ℕ → List Token → Type 0
 IsNameToken name tokens = tokens ≡ Token.name name ∷ []
 

@@ -75,7 +75,7 @@ abbrev mutual
   reference_numbers (PlainVarRef.simple name) = []
   reference_numbers (PlainVarRef.subscripted name index) = numbers index
 
-  -- the numbers in a list of expressions, in order, each of which has a limit
+  -- the numbers in a list of expressions, in order, to each of which the limit of numbers applies
   pub numbers_of_all : PlainExprs → List ℕ
   numbers_of_all PlainExprs.nil = []
   numbers_of_all (PlainExprs.cons a rest) = numbers a ++ numbers_of_all rest

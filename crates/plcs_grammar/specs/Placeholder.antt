@@ -3,7 +3,8 @@ use Rattle.std.specs.Prelude.{ℕ, ◌-◌, List, length, take, drop, codes}
 use Rattle.plcs_grammar.specs.declared.category.Category.{Category}
 use Rattle.plcs_grammar.specs.declared.category.Category.TheVariants.{Assignment, Condition, Expression, ExpressionList, VariableList, Variable, CallRef, DeclaredList, ProcedureName, NameList, Length, CommentText}
 
--- the placeholder of a phrase that is wanted; for an assignment, the statement hole in which it is typed
+-- what is written where a part of the category is empty: its placeholder; for an assignment, the statement hole in
+-- which it is typed
 abbrev pub placeholder : Category → List ℕ
 placeholder Assignment = codes "{statement}"
 placeholder Condition = codes "{condition}"

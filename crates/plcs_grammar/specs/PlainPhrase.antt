@@ -69,7 +69,7 @@ abbrev pub exprs_from : List PlainExpr → PlainExprs
 exprs_from [] = PlainExprs.nil
 exprs_from (t ∷ ts) = PlainExprs.cons t (exprs_from ts)
 
--- the plain form of a variable of this name, with its subscript already in plain form, if there is one
+-- in a phrase as plain data, the variable of this name with its subscript, already in plain form, if there is one
 abbrev pub reference_with : List ℕ → Option (Box PlainExpr Global) → PlainVarRef
 reference_with name None = PlainVarRef.simple name
 reference_with name (Some index) = PlainVarRef.subscripted name index.value
@@ -85,7 +85,7 @@ plain_expr_level (Expr-F.Infix op a b) = PlainExpr.binary op a.value b.value
 plain_expr_level (Expr-F.Builtin function arguments) = PlainExpr.builtin function (exprs_from arguments.items)
 plain_expr_level (Expr-F.Paren a) = PlainExpr.parenthesized a.value
 
--- the plain form of one level of a variable, with its subscript already in plain form
+-- the plain form of one level of a variable of the code: the same data, with its subscript already in plain form
 abbrev pub plain_var_ref_level : VarRef-F PlainExpr PlainVarRef → PlainVarRef
 plain_var_ref_level r = reference_with r.name r.index
 

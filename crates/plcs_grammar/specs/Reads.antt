@@ -36,7 +36,7 @@ Outline category x = (phrase : PlainPhrase) × HasReading category x phrase
 abbrev pub Reads : Category → List ℕ → PlainPhrase → Type 0
 Reads category x phrase = HasReading category x phrase × IsWithinLimits phrase
 
--- the whole text reads as a phrase past the limits, and this is what goes past one first
+-- what the whole text reads as is a phrase past the limits, and this is what goes past one first
 abbrev pub IsOver : Category → List ℕ → OverLimit → Type 0
 IsOver category x over =
     (pieces : List Piece) × (phrase : PlainPhrase) × IsCutAs category x pieces phrase

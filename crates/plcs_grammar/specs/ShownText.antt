@@ -1,4 +1,4 @@
--- What is known of each canonical text that is shown, and the law that it is so.
+-- What is known of each canonical text, so that it can be shown in a part, and the law that it is so.
 use Rattle.std.specs.Prelude.{◌≢◌, ℕ, List, [], ◌++◌, codes, IsTrue}
 use Rattle.std.specs.List.{list_all}
 use Rattle.plcs_base.specs.Byte.{is_printable}

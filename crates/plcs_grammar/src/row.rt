@@ -68,7 +68,7 @@ impl NodeKind {
     }
 }
 
-/// Whether the word is that of the command that the table of templates has for a kind of node, if it has one.
+/// Whether a row of the table of templates has the word as that of its command, if it has one.
 fn is_command(word: &[u8], command: Option<&[u8]>) -> bool
     ensures { result ≡ is_command word.now (option_map (λ own. own.now) command.entry) }
 {
@@ -99,8 +99,8 @@ const TEMPLATES: [Template; 16] = [
 ];
 
 impl Template {
-    /// The template in whose row of the table this word is the command, behind a point, or `None` where it is
-    /// in none.
+    /// Looks a word up in the table of templates: the template in whose row it is the command, behind a point,
+    /// or `None` where it is in none.
     #[tactic(auto, unfolding(crate::specs::Template::template_of))]
     pub fn read(word: &[u8]) -> Option<Template>
         ensures { result ≡ template_of word.now }

@@ -13,7 +13,7 @@ use Rattle.plcs_machine.specs.Fetched.{Fetched, at_once, behind_one, with_result
 use Rattle.plcs_machine.specs.Lead.{Lead, address_of, lead}
 use Rattle.plcs_machine.specs.Passing.{Landing, Making, settle}
 
--- the answer of one step of a run by code, with how many instructions it fetches
+-- what one step of a run by code comes to: its answer, with how many instructions it fetches
 abbrev pub FetchedAnswer : Type 0
 FetchedAnswer = Fetched PlainStepAnswer
 
@@ -25,7 +25,8 @@ acted c act landing = PlainStepAnswer.stepped (done act landing.place c)
 abbrev pub called : PlainConfiguration → (slot : ℕ) → Landing → PlainStepAnswer
 called c slot landing = acted c (Act.call (new_frame slot landing.place landing.variables)) landing
 
--- the frame that a step by code makes for a call with these arguments, before it has variables
+-- the frame that one step of a run by code makes for a call with these arguments, before its instructions make the
+-- variables
 abbrev pub making_for : List Argument → Making
 making_for arguments = record { variables = []; arguments = arguments }
 
@@ -39,7 +40,7 @@ lead_answer c go settled (Lead.enters slot address arguments) =
 lead_answer c go settled (Lead.arrives place) = Some (at_once (PlainStepAnswer.stepped (done Act.pass place c)))
 lead_answer c go settled Lead.ends = Some (at_once PlainStepAnswer.ended)
 
--- the answer of a step behind an instruction that comes to this
+-- the answer of a step by code, whose instruction comes to this
 abbrev pub outcome_answer : PlainConfiguration → (go : ℕ → List Value → List Argument → Option FetchedAnswer) → (settled : ℕ → Option Making → Option (Fetched Landing)) → Outcome Lead → Option FetchedAnswer
 outcome_answer c go settled (Outcome.gives leads) = lead_answer c go settled leads
 outcome_answer c go settled (Outcome.stops reason) = Some (at_once (PlainStepAnswer.stopped reason))

@@ -21,7 +21,7 @@ behind_one fetched = record { result = fetched.result; fetches = fetched.fetches
 abbrev pub with_result : {A B : Type 0} → (A → B) → Fetched A → Fetched B
 with_result make fetched = record { result = make fetched.result; fetches = fetched.fetches }
 
--- the result alone, if there is one
+-- what instructions come to, without how many of them were fetched, if there is something
 abbrev pub result_of : {A : Type 0} → Option (Fetched A) → Option A
 result_of fetched = option_map (λ one. one.result) fetched
 

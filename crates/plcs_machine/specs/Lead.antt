@@ -49,16 +49,17 @@ address_at (negsuc n) = None
 abbrev pub jump_target : (next : ℕ) → ℤ → Option ℕ
 jump_target next d = address_at (pos next +ℤ d)
 
--- the address in the code of the place to which the instruction leads that leaves a procedure, if it has one
+-- where the instruction of the table leads that leaves a procedure: to the address in the code of this place, if it has
+-- one
 abbrev pub address_of : PlainCode → PlainPlace → Option ℕ
 address_of code place = get code.addresses (place_of place)
 
--- a jump, with these operands and arguments
+-- what an instruction leads to that jumps, with these operands and arguments
 abbrev pub jumped : (next : ℕ) → List Value → List Argument → ℤ → Outcome Lead
 jumped next values arguments d =
     then_gives (if_there (jump_target next d)) (λ target. Outcome.gives (Lead.goes_on target values arguments))
 
--- an act, behind which the next instruction comes
+-- what an instruction leads to that does an act: behind it the next instruction comes
 abbrev pub then_acts : (next : ℕ) → Outcome Act → Outcome Lead
 then_acts next outcome = then_gives outcome (λ act. Outcome.gives (Lead.acts act next))
 

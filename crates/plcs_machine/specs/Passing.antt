@@ -98,7 +98,7 @@ pub record Landing : Type 0 where
 abbrev pub landing : PlainPlace → Variables → Landing
 landing place variables = record { place = place; variables = variables }
 
--- the variables of a frame that is made, or none
+-- the variables with the cells of a new frame while these are made, or none
 abbrev pub variables_made : Option Making → Variables
 variables_made None = []
 variables_made (Some making) = making.variables

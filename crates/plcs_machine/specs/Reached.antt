@@ -13,7 +13,8 @@ is_reference Cell.Unset = false
 is_reference (Cell.Held value) = false
 is_reference (Cell.Ref location) = true
 
--- whether a reference in the newest frame may be followed there: in a lower frame there is such a cell, which is no reference
+-- whether the cell there is one on which an instruction works by a reference in the newest frame: it is in a lower
+-- frame, and is no reference
 abbrev pub may_follow : List Frame → Location → Bool
 may_follow frames location =
     nat_lt location.frame (newest frames) && option_map_or (λ cell. not (is_reference cell)) (cell_at frames location) false

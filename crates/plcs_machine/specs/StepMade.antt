@@ -16,7 +16,7 @@ step_answered StepAnswer.Stepped now = PlainStepAnswer.stepped now
 step_answered (StepAnswer.Stopped reason) now = PlainStepAnswer.stopped reason
 step_answered StepAnswer.Ended now = PlainStepAnswer.ended
 
--- an act that the configuration before allows was done, and this is its record
+-- a step that the code made did an act that the configuration before allows, and this is its record
 abbrev pub DoesAct : (before now : PlainConfiguration) → (notes : Undo) → Type 0
 DoesAct before now notes =
     (act : Act) × (next : PlainPlace) × Allows act before × (now ≡ done act next before) × (notes ≡ undo_of act before)
@@ -32,7 +32,8 @@ StepChanges StepAnswer.Stepped before now noted notes = (step_undone notes now �
 StepChanges (StepAnswer.Stopped reason) before now noted notes = NothingChanges before now noted notes
 StepChanges StepAnswer.Ended before now noted notes = NothingChanges before now noted notes
 
--- the answer that is wanted is a step that makes one frame more, as only a call does
+-- the answer that is wanted of a step that the code made is a configuration with one frame more, as only a call makes
+-- one
 abbrev pub MakesFrame : (wanted : Option FetchedAnswer) → (before : PlainConfiguration) → Type 0
 MakesFrame wanted before =
     (now : PlainConfiguration) × (result_of wanted ≡ Some (PlainStepAnswer.stepped now)) × (length now.frames ≡ length before.frames + 1)

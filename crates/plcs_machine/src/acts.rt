@@ -63,7 +63,7 @@ pub(crate) fn read_into(
     Undo::Read(place, location, cell, taken)
 }
 
-/// Puts a value into a cell, and gives what was in it.
+/// Puts a value into a cell of the state of a run, as acts do, and gives what was in it.
 fn put_value(state: &mut RunState, location: &Location, value: Value) -> Cell
     requires there { IsSome (cell_at state.old.frames location.now) }
     ensures before { cell_at state.old.frames location.now ≡ Some result }

@@ -203,7 +203,7 @@ fn part(bytes: &[u8], from: usize, count: usize) -> Value
     cut(&bytes[from..from + count])
 }
 
-/// The bytes of a part of a text, as a value.
+/// What a built-in function makes of a text where it takes a part of it: the bytes of that, as a value.
 fn cut(bytes: &[u8]) -> Value
     requires short { IsTextValue bytes.now }
     ensures { result ≡ Value.Text bytes.now }
@@ -214,8 +214,8 @@ fn cut(bytes: &[u8]) -> Value
     }
 }
 
-/// `INDEX`: where the sought text first stands in another, counted from 1; 0 where it doesn't, or the sought text
-/// is empty.
+/// What `INDEX` makes of two texts: where the sought one first stands in the other, counted from 1; 0 where it
+/// doesn't, or the sought text is empty.
 fn found_in(x: &[u8], sought: &[u8]) -> usize
     ensures found { result ≡ found_in x.now sought.now }
     ensures within { result ≤ length x.now }

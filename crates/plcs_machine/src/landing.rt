@@ -41,7 +41,7 @@ pub(crate) fn next_place<W: Work, C: CodeView<W>>(
     unreachable!()
 }
 
-/// The address to which a jump goes, after which the next address is this.
+/// The address to which a jump on the way to the next place goes, where the address behind the jump is this.
 pub(crate) fn target(next: u32, by: i32) -> u32
     requires inside { has_target next by ≡ true }
     ensures { jump_target next by ≡ Some result }
@@ -116,7 +116,7 @@ fn add_parameter(
     cells.add(name.copy(), parameter)
 }
 
-/// Adds a variable of the type and the size, whose cells aren't set.
+/// On the way from the entry of a procedure, adds a variable of the type and the size, whose cells aren't set.
 fn add_unset(
     alloc: Global,
     name: &Name,
@@ -130,7 +130,7 @@ fn add_unset(
     cells.add(name.copy(), Variable::unset(alloc, ty, size)?)
 }
 
-/// The cell of a parameter of the type for an argument.
+/// On the way from the entry of a procedure, the cell that a parameter of the type gets for an argument.
 fn cell_for(ty: ItemType, argument: &Argument) -> Cell
     requires there { IsSome (argument_cell ty argument.now) }
     ensures { argument_cell ty argument.now ≡ Some result }

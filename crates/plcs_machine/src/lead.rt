@@ -116,7 +116,7 @@ fn push_text(operands: &mut Operands, next: u32, text: &TextValue) -> Led
     push(operands, next, Value::Text(copy))
 }
 
-/// Adds an argument behind the others.
+/// What an instruction does that adds an argument behind the others.
 fn add(operands: &mut Operands, next: u32, argument: Argument) -> Led
     requires fine { is_fine (add_lead next operands.old.values operands.old.arguments argument) ≡ true }
     ensures { plain_led result operands.new.values operands.new.arguments
@@ -185,7 +185,8 @@ fn binary(operands: &mut Operands, next: u32, op: InfixOp) -> Led
     push_computed(operands, next, infix_value(op, &left, &right))
 }
 
-/// Pushes what a built-in function makes of so many newest operands.
+/// What the instruction of a built-in function does: it pushes what the function makes of so many newest
+/// operands.
 fn call_builtin(operands: &mut Operands, next: u32, function: Builtin, count: u32) -> Led
     requires fine { is_fine (builtin_lead next operands.old.arguments function count operands.old.values) ≡ true }
     ensures { plain_led result operands.new.values operands.new.arguments
@@ -242,7 +243,7 @@ fn load_at(frames: &Frames, operands: &mut Operands, next: u32, name: &Name) -> 
     load(frames, operands, next, name, Some(subscript))
 }
 
-/// Stores a value into a variable.
+/// What an instruction does that stores a value into a variable.
 fn store(frames: &Frames, next: u32, name: &Name, subscript: Option<i32>, value: Value) -> Led
     requires fine { is_fine (store_lead frames.now next name.now subscript value) ≡ true }
     ensures { (values : List Value) (arguments : List Argument) → plain_led result values arguments
@@ -316,7 +317,7 @@ fn refer_at(frames: &Frames, operands: &mut Operands, next: u32, name: &Name) ->
     refer(frames, operands, next, name, Some(subscript))
 }
 
-/// Reads an item of the input into a variable.
+/// What the instruction does that reads an item of the input into a variable.
 fn get(frames: &Frames, rest: &[u8], next: u32, name: &Name, subscript: Option<i32>) -> Doing
     requires short { length rest.now ≤ 4294967295 }
     requires fine { is_fine (get_lead frames.now rest.now next name.now subscript) ≡ true }
@@ -330,7 +331,7 @@ fn get(frames: &Frames, rest: &[u8], next: u32, name: &Name, subscript: Option<i
     }
 }
 
-/// Reads an item of the input into the cell at a location.
+/// What an instruction does that reads an item of the input into the cell at a location.
 fn read_into(frames: &Frames, rest: &[u8], next: u32, location: Location) -> Doing
     requires short { length rest.now ≤ 4294967295 }
     requires fine { is_fine (read_lead frames.now rest.now next location) ≡ true }
@@ -353,7 +354,8 @@ fn read_into(frames: &Frames, rest: &[u8], next: u32, location: Location) -> Doi
     }
 }
 
-/// Reads an item of the input into a cell of an array, whose subscript is the newest operand.
+/// What the instruction does that reads an item of the input into a cell of an array, whose subscript is the
+/// newest operand.
 fn get_at(frames: &Frames, operands: &mut Operands, rest: &[u8], next: u32, name: &Name) -> Doing
     requires short { length rest.now ≤ 4294967295 }
     requires fine { is_fine (get_at_lead frames.now rest.now next name.now operands.old.values) ≡ true }
@@ -527,7 +529,7 @@ fn iterate_to(
 
 // ---- calls
 
-/// Calls the procedure of the name, unless too many frames stand.
+/// What the instruction does that calls the procedure of the name, unless too many frames stand.
 fn call<W: Work, C: CodeView<W>>(code: &C, frames: &Frames, name: &Name) -> Led
     requires fine { is_fine (named_call_lead (C.code code.now) frames.now name.now []) ≡ true }
     ensures { (values : List Value) (arguments : List Argument) → plain_led result values arguments
@@ -545,7 +547,7 @@ fn call<W: Work, C: CodeView<W>>(code: &C, frames: &Frames, name: &Name) -> Led
     Led::Enters(slot, address)
 }
 
-/// Leaves the newest frame, or ends the run in main.
+/// What the instruction does that leaves the newest frame; in main it ends the run.
 fn leave<W: Work, C: CodeView<W>>(code: &C, frames: &Frames) -> Led
     requires fine { is_fine (leave_lead (C.code code.now) frames.now) ≡ true }
     ensures { (values : List Value) (arguments : List Argument) → plain_led result values arguments

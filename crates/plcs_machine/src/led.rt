@@ -52,7 +52,8 @@ pub(crate) fn next_address(doing: &Doing) -> Option<u32>
     }
 }
 
-/// What the last instruction of a walk leads to, with the address behind it, and how many fetches are left.
+/// What an instruction leads to, the last one of a walk, with the address behind it, and how many fetches are
+/// left.
 #[derive(Drop)]
 pub(crate) struct Walked {
     /// What the instruction leads to.

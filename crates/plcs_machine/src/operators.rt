@@ -165,7 +165,7 @@ fn compared(op: InfixOp, order: Ordering) -> Option<Value>
     }
 }
 
-/// Two texts joined, if that isn't too long.
+/// What the operator that joins two texts makes of them, if that isn't too long.
 fn joined(a: &TextValue, b: &TextValue) -> Result<Option<Value>, FaultKind>
     ensures { answer_outcome result ≡ text_value (a.now ++ b.now) }
 {
@@ -205,7 +205,7 @@ pub(crate) fn fixed_value(number: i64) -> Result<Option<Value>, FaultKind>
     }
 }
 
-/// The byte of this number, or a blank behind the last one.
+/// What an operator compares of a text: the byte of this number, or a blank behind the last one.
 fn byte_or_blank(bytes: &[u8], k: usize) -> u8
     ensures { result ≡ get_or bytes.now k 32 }
 {

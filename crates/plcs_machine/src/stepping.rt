@@ -99,7 +99,7 @@ fn step_through<W: Work, C: CodeView<W>>(
     finish(alloc, code, walked, place, state, undo, work)
 }
 
-/// What is left of the input once so many bytes of it are taken.
+/// What one step of a run may read of the input: what is left once so many bytes of it are taken.
 fn rest_of(input: &[u8], taken: u32) -> &[u8]
     ensures rest { result.now ≡ drop taken input.now }
     ensures short { length result.now ≤ length input.now }
@@ -223,8 +223,8 @@ fn put<W: Work, C: CodeView<W>>(
     StepAnswer::Stopped(Reason::Fault(FaultKind::OutputLimit))
 }
 
-/// Writes so many newest operands, on a new line or not; `false` where the output would be too long, and then
-/// nothing is written.
+/// In one step of a run, writes so many newest operands, on a new line or not; `false` where the output would
+/// be too long, and then nothing is written.
 fn write(state: &mut RunState, skip: bool, count: u32) -> bool
     ensures fits { result ≡ nat_le (length (output_then state.old skip count)) most_output }
     ensures becomes { plain_configuration state.new
@@ -234,7 +234,7 @@ fn write(state: &mut RunState, skip: bool, count: u32) -> bool
     state.output.write(skip, given).is_ok()
 }
 
-/// Stores a value that was read, and goes on behind that.
+/// In one step of a run, stores a value that was read, and goes on behind that.
 fn read<W: Work, C: CodeView<W>>(
     code: &C,
     location: Location,
@@ -262,7 +262,7 @@ fn read<W: Work, C: CodeView<W>>(
     StepAnswer::Stepped
 }
 
-/// Does what an instruction leads to.
+/// Does what the last instruction of a step leads to, and answers the step.
 fn follow<W: Work, C: CodeView<W>>(
     alloc: Global,
     code: &C,
@@ -305,7 +305,8 @@ fn follow<W: Work, C: CodeView<W>>(
     }
 }
 
-/// Makes the frame of the procedure in a slot, which is entered at an address, and goes to its first place.
+/// Ends a step that calls: makes the frame of the procedure in a slot, which is entered at an address, and goes
+/// to its first place.
 fn enter<W: Work, C: CodeView<W>>(
     alloc: Global,
     code: &C,

@@ -32,7 +32,8 @@ on_two_or_three two three (a ∷ (b ∷ (c ∷ (d ∷ rest)))) = Outcome.undefin
 
 -- ---- the functions
 
--- MOD: the number from 0 to |b| - 1 that differs from a by a multiple of b
+-- what the built-in function MOD makes of two numbers: the number from 0 to |b| - 1 that differs from a by a multiple
+-- of b
 abbrev pub modulo : ℤ → ℤ → Outcome Value
 modulo a b = if is_zero b then faults FaultKind.ZeroDivide else Outcome.gives (Value.Fixed (pos (residue a (nat_abs b))))
 

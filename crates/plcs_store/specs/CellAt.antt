@@ -1,4 +1,4 @@
--- The cells of frames: where they are, what is read from them, and what is stored.
+-- The cells of frames: where they are, what is read from them, what is stored, and which cells a new variable has.
 use Rattle.std.specs.Prelude.{◌≡◌, ℕ, ◌-◌, ◌<◌, ℤ, pos, nat_abs, int_le, ◌&&◌, if◌then◌else◌, bytes_eq, List, [], ◌∷◌, length, replicate, take, slice_get, slice_set, Option, Some, None, option_and_then, option_map}
 use Rattle.std.specs.Map.{lookup, set_value}
 use Rattle.std.specs.Option.{option_map_or}
@@ -19,7 +19,7 @@ use Rattle.plcs_store.specs.Outcome.{Outcome, faults, if_there, then_gives}
 abbrev pub newest : List Frame → ℕ
 newest frames = length frames - 1
 
--- the variables in which the cells of a frame are, each under its name
+-- where the cells of a frame are: in its variables, each under its name
 abbrev pub Variables : Type 0
 Variables = List (List ℕ × Variable)
 
@@ -119,7 +119,7 @@ with_cell location cell frames =
 
 -- ---- new cells
 
--- the cells of a variable of this size, in which nothing is stored yet: one of a scalar, whose size is 0
+-- the cells that a new variable of this size has, in which nothing is stored yet: one of a scalar, whose size is 0
 abbrev pub unset_cells : (size : ℕ) → List Cell
 unset_cells size = replicate (cells_in size) Cell.Unset
 
@@ -131,11 +131,11 @@ new_variable ty size = record { ty = ty; size = size; cells = unset_cells size }
 abbrev pub unset_variable : Declared → Variable
 unset_variable item = new_variable item.ty item.size
 
--- a scalar variable of the type, in whose one cell this is stored
+-- a new scalar variable of the type, in whose one cell this is stored
 abbrev pub scalar_variable : ItemType → Cell → Variable
 scalar_variable ty cell = record { ty = ty; size = 0; cells = cell ∷ [] }
 
--- the cell of a variable under its name, not set
+-- a new variable under its name, of which no cell is set
 abbrev pub unset_named : Declared → List ℕ × Variable
 unset_named item = (item.name, unset_variable item)
 

@@ -1,4 +1,4 @@
--- What a run is in, as plain data, and its places.
+-- What a run is in, as plain data, and where its frames stand.
 use Rattle.std.specs.Prelude.{ℕ, List, Option, option_map, slice_get}
 use Rattle.plcs_base.specs.declared.place.Place.{Place}
 use Rattle.template_tree.specs.Positions.Place.{PlainPlace}

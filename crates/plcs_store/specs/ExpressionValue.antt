@@ -48,7 +48,8 @@ abbrev pub reference_location : List Frame → PlainVarRef → Outcome Location
 reference_location frames reference =
     then_gives (subscript_value frames reference) (located frames (name_of_reference reference))
 
--- an argument of a call: a variable without parentheses is passed by reference, and anything else by its value
+-- what an expression comes to that is an argument of a call: a reference where it is a variable without parentheses,
+-- and else its value
 abbrev pub argument_value : List Frame → PlainExpr → Outcome Argument
 argument_value frames (PlainExpr.variable reference) =
     then_gives (reference_location frames reference) (λ location. Outcome.gives (Argument.Reference location))

@@ -42,7 +42,7 @@ waits_in_template Template.Comment point = false
 waits_in_template Template.Proc point = false
 waits_in_template Template.ProcP point = false
 
--- whether a place at which a node of the kind stands is that of a CALL which waits for what it called
+-- whether a place at which a frame stands, by the kind of its node, is that of a CALL which waits for what it called
 abbrev pub is_waiting_place : NodeKind → (point : ℕ) → Bool
 is_waiting_place NodeKind.DeclarationHole point = false
 is_waiting_place NodeKind.StatementHole point = false
@@ -95,7 +95,7 @@ declared_part item = (item.ty, item.size)
 abbrev pub variable_part : Variable → ItemType × ℕ
 variable_part variable = (variable.ty, variable.size)
 
--- the variables are those of the effective items, with their types and sizes, each once
+-- the variables of a frame that fits are those of the effective items, with their types and sizes, each once
 pub record AreVariables (items : List Declared) (variables : Variables) : Type 0 where
   pub once : IsDistinct bytes_eq (keys_of variables)
   pub same : (name : List ℕ) → option_map variable_part (variable_named name variables) ≡ option_map declared_part (item_named name items)
@@ -136,7 +136,7 @@ IsNoReference Cell.Unset = Unit {0}
 IsNoReference (Cell.Held value) = Unit {0}
 IsNoReference (Cell.Ref location) = ⊥
 
--- there is a cell of the kind at the location, and it is no reference
+-- a reference that fits may go to this location: there is a cell of the kind there, and it is no reference
 pub record IsTarget (frames : List Frame) (kind : Kind) (location : Location) : Type 0 where
   pub variable : Variable
   pub there : variable_at frames location.frame location.name ≡ Some variable

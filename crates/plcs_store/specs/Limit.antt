@@ -18,6 +18,6 @@ most_output = MOST_OUTPUT
 abbrev pub most_operands : ℕ
 most_operands = MOST_OPERANDS
 
--- for how many more there is room beside these, where there always is room for so many
+-- for how many more a run has room beside these, where so many are the limit, up to which it always has room
 abbrev pub room_beside : {A : Type 0} → (most : ℕ) → List A → ℕ
 room_beside most held = most - length held

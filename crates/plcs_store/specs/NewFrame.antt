@@ -79,6 +79,7 @@ pub record AreWithinLimits (items : List Declared) : Type 0 where
   pub few : cells items ≤ most_cells
   pub once : IsDistinct bytes_eq (keys_of (map unset_named items))
 
--- the effective items of a procedure, of which a new frame has the variables, keep these limits
+-- a new frame keeps its limits of variables: the effective items of a procedure, which are its variables, are within
+-- them
 abbrev pub ItemsKeepLimits : Type 0
 ItemsKeepLimits = (inner : Forest) → AreWithinLimits (items_inside inner)

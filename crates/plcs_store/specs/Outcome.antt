@@ -10,7 +10,7 @@ pub data Outcome (A : Type 0) : Type 0 where
   stops : Reason → Outcome A
   undefined : Outcome A
 
--- the outcome of a step that stops with a fault
+-- what a part of a step comes to that stops the step with a fault
 abbrev pub faults : {A : Type 0} → FaultKind → Outcome A
 faults kind = stops (Reason.Fault kind)
 
@@ -36,7 +36,7 @@ abbrev pub found_or_fault : {A : Type 0} → Result A FaultKind → Outcome A
 found_or_fault (Ok a) = gives a
 found_or_fault (Err kind) = faults kind
 
--- the outcome of a part of a step that an answer of the code is, which may also be undefined
+-- what a part of a step comes to by an answer of the code, which may also be undefined
 abbrev pub answer_outcome : {A : Type 0} → Result (Option A) FaultKind → Outcome A
 answer_outcome (Ok found) = if_there found
 answer_outcome (Err kind) = faults kind

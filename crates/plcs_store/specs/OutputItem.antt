@@ -39,6 +39,6 @@ abbrev pub output_with : (skip : Bool) → (output : List ℕ) → List Value �
 output_with false output values = with_items_written output values
 output_with true output values = with_items_written (with_line_ended output) values
 
--- what is written to the output stands behind what was written before
+-- values are written behind what stands in the output, which stays as it is
 abbrev pub WrittenStands : Type 0
 WrittenStands = (skip : Bool) (output : List ℕ) (values : List Value) → take (length output) (output_with skip output values) ≡ output

@@ -15,7 +15,8 @@ use Rattle.plcs_store.specs.declared.reason.Reason.{Reason}
 
 -- ---- procedures that are called
 
--- what a call needs of a procedure: its slot, the place where a run begins in it, its parameters, and its effective items
+-- what a call that stands at a place needs of a procedure: its slot, the place where a run begins in it, its
+-- parameters, and its effective items
 pub record Callee : Type 0 where
   pub slot : ℕ
   pub start : PlainPlace

@@ -53,7 +53,7 @@ test_going frames condition inside other =
 
 -- ---- loops
 
--- whether a loop is over where its variable has this value
+-- whether a step finds a loop over, where the variable of that has this value
 abbrev pub is_over : (limit step value : ℤ) → Bool
 is_over limit step value = if int_le (pos 0) step then int_lt limit value else int_lt value limit
 
@@ -73,7 +73,8 @@ begin_going frames slot name first limit step inside after =
     then_gives (located frames name None) (λ location.
     entry_going frames record { slot = record { 0 = slot }; limit = b; step = s } location a inside after)))))))
 
--- a loop of this number goes on, or is left, where its variable becomes this; it is told where both go on
+-- what one step of a run gives in which the variable of a loop of this number becomes this: the loop goes on, or is
+-- left; it is told where both go on
 abbrev pub loop_going : {A : Type 0} → List Frame → (number : ℕ) → KeptLoop → Location → (value : ℤ) → (inside after : A) → Outcome (Act × A)
 loop_going frames number kept location z inside after =
     storing frames location (Value.Fixed z) (λ value.
@@ -124,7 +125,7 @@ called_frame frames callee arguments =
     option_map (λ parameters. new_frame callee.slot callee.start (parameters ++ other_variables callee.parameters callee.items))
     (parameter_variables frames callee.items callee.parameters arguments)
 
--- a procedure is called, unless too many frames stand
+-- what one step of a run gives that calls a procedure, unless too many frames stand
 abbrev pub enter_going : List Frame → Callee → List Argument → Outcome Going
 enter_going frames callee arguments =
     if nat_le most_frames (length frames) then faults FaultKind.CallDepth
@@ -165,8 +166,8 @@ step_answer c (Outcome.gives going) = Some (PlainStepAnswer.stepped (done going.
 step_answer c (Outcome.stops reason) = Some (PlainStepAnswer.stopped reason)
 step_answer c Outcome.undefined = None
 
--- the answer where the procedure of the newest frame is left: its caller goes on where it waits, and without one the run is
--- over
+-- the answer of one step of a run that leaves the procedure of the newest frame: its caller goes on where it waits, and
+-- without one the run is over
 abbrev pub leave_answer : (spots : PlainPlace → Option Spot) → PlainConfiguration → Option PlainStepAnswer
 leave_answer spots c =
     if nat_le (length c.frames) 1 then Some PlainStepAnswer.ended

@@ -40,13 +40,13 @@ FittingCallersWait =
     (tree : PlainTree) (c : PlainConfiguration) (number : ℕ) (frame : Frame) → IsTree tree → Fits tree.items c
     → slice_get c.frames number ≡ Some frame → number + 1 < length c.frames → WaitsAtCall tree.items frame
 
--- a frame of a run that fits a tree has room for one more loop
+-- the law that a frame of a run that fits a tree has room for one more loop
 abbrev pub FittingLoopsHaveRoom : Type 0
 FittingLoopsHaveRoom =
     (tree : PlainTree) (c : PlainConfiguration) (number : ℕ) (frame : Frame) → IsTree tree → Fits tree.items c
     → slice_get c.frames number ≡ Some frame → length frame.loops < most_loops
 
--- a frame of a run that fits a tree has no more cells than a frame may have
+-- the law that a frame of a run that fits a tree has no more cells than a frame may have
 abbrev pub FittingCellsFew : Type 0
 FittingCellsFew =
     (tree : PlainTree) (c : PlainConfiguration) (number : ℕ) (frame : Frame) → IsTree tree → Fits tree.items c

@@ -29,7 +29,8 @@ impl Frames {
         }
     }
 
-    /// For which location a cell of the newest frame finally stands, or `None` where there is no such cell.
+    /// Which cell this one of a variable of the newest frame stands for in the end, as a location, or `None`
+    /// where there is no such cell.
     fn final_location(&self, name: &Name, element: u32) -> Option<Location>
         ensures { result ≡ final_location self.now (own_location self.now name.now element) }
     {
@@ -44,7 +45,7 @@ impl Frames {
         }
     }
 
-    /// The number of the newest frame, in which the cells of variables are looked for, counted from 0 at
+    /// The frame in which the cells are that variables stand for: the number of the newest, counted from 0 at
     /// main's; 0 also where there is none.
     fn newest_number(&self) -> usize
         ensures number { result ≡ newest self.now }
@@ -86,7 +87,7 @@ fn stands_for(own: Location, cell: &Cell) -> Location
     }
 }
 
-/// A copy of the value that is read from a cell; `None` of one that stands for another.
+/// What is read from a variable's cell: a copy of its value, or `None` where the cell stands for another.
 fn value_in_cell(cell: &Cell) -> Result<Option<Value>, FaultKind>
     ensures { answer_outcome result ≡ value_in_cell cell.now }
 {

@@ -207,8 +207,8 @@ impl Frames {
         self.frames[newest].loops.take(number)
     }
 
-    /// Puts a loop between those of the newest frame, so that it has this number, counted from 0 at the
-    /// outermost. It takes no memory.
+    /// Puts a loop back between those that the newest of the frames keeps, so that it has this number, counted
+    /// from 0 at the outermost. It takes no memory.
     pub fn put_loop_back(&mut self, number: usize, kept: KeptLoop)
         requires some { 0 < length self.old }
         requires room { HasLoopRoom self.old }

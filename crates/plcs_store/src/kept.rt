@@ -25,14 +25,15 @@ impl Model for Headings {
 }
 
 impl Headings {
-    /// The parts of these headings in order, as they are kept. It takes no memory.
+    /// What is kept of these headings of the program when it is edited: their parts, in order. It takes no
+    /// memory.
     pub fn from_vec(headings: Vec<CopiedParts>) -> Headings
         ensures { result ≡ headings.items }
     {
         Headings { headings }
     }
 
-    /// Gives the parts of the kept headings back. It takes no memory.
+    /// Gives the parts of the headings back that are kept of the program. It takes no memory.
     pub fn into_vec(self) -> Vec<CopiedParts>
         ensures { result.items ≡ self }
     {
@@ -47,7 +48,7 @@ impl Headings {
     }
 }
 
-/// The effective items of a procedure, which contracts see as a list.
+/// The effective items of a procedure, as they are kept of the program; contracts see them as a list.
 #[derive(Drop)]
 pub struct DeclaredList {
     items: Vec<Declared>,
@@ -70,7 +71,7 @@ impl DeclaredList {
         DeclaredList { items }
     }
 
-    /// Gives the kept items back. It takes no memory.
+    /// Gives the items back that are kept of the program. It takes no memory.
     pub fn into_vec(self) -> Vec<Declared>
         ensures { result.items ≡ self }
     {
@@ -108,7 +109,7 @@ impl DeclaredLists {
         DeclaredLists { lists }
     }
 
-    /// Gives the kept lists of items back. It takes no memory.
+    /// Gives the lists of items back that are kept of the program. It takes no memory.
     pub fn into_vec(self) -> Vec<DeclaredList>
         ensures { result.items ≡ self }
     {
@@ -150,7 +151,7 @@ impl HeldTemplates {
         HeldTemplates { templates }
     }
 
-    /// Gives the kept templates back. It takes no memory.
+    /// Gives the templates back that are kept of the program. It takes no memory.
     pub fn into_vec(self) -> Vec<HeldTemplate>
         ensures { result.items ≡ self }
     {

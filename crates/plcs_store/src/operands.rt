@@ -1,4 +1,4 @@
-//! The room for what one step works on.
+//! The room for what one step works on: the values of its operators, and the arguments of its call.
 ghost use Rattle.std.specs.Prelude.{◌≡◌, ◌+◌, ◌<◌, ◌≤◌, drop, length, reverse, slice_get, take, vec_capacity, ◌++◌, [], ◌∷◌, IfNone, IfOk, IfSome, option_map};
 ghost use Rattle.plcs_store.specs.Limit.{most_operands};
 
@@ -132,7 +132,7 @@ impl Arguments {
         }
     }
 
-    /// Takes the last evaluated argument off, or `None` where there is none.
+    /// Takes the last evaluated argument off that a step works on, or `None` where there is none.
     pub fn pop(&mut self) -> Option<Argument>
         ensures some { IfSome result (λ argument. self.old ≡ self.new ++ argument ∷ []) }
         ensures none { IfNone result ((self.old ≡ []) × (self.new ≡ self.old)) }

@@ -56,7 +56,8 @@ impl Output {
         self.bytes.truncate(count);
     }
 
-    /// Writes the values to the output, on a new line or not; where not all fit, nothing.
+    /// Writes the values behind the bytes of the output that were written, on a new line or not; where not all
+    /// fit, nothing.
     ///
     /// `OutputFull` where the output would have over 100,000 bytes; then nothing is changed.
     pub fn write(&mut self, skip: bool, items: &[Value]) -> Result<(), OutputFull>
@@ -147,7 +148,7 @@ impl Output {
         }
     }
 
-    /// Puts a value into the output, or nothing where it doesn't fit.
+    /// Has a value come behind the bytes of the output, or nothing where it doesn't fit.
     fn put_value(&mut self, value: &Value) -> Result<(), OutputFull>
         ensures fits { IsOk result ↔ (length (self.old ++ value_bytes value.now) ≤ most_output) }
         ensures written { OnOk result (self.new ≡ self.old ++ value_bytes value.now) }

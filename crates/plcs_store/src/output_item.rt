@@ -7,8 +7,8 @@ use crate::output::OutputFull;
 use crate::run_state::RunState;
 use plcs_base::Value;
 
-/// Writes the values to the output, on a new line or not, each behind what separates it from what stands
-/// before. It takes no memory.
+/// Writes the values to the output in the state of a run, on a new line or not, each behind what separates it
+/// from what stands before. It takes no memory.
 ///
 /// `OutputFull` where the output would have over 100,000 bytes; then nothing is changed.
 pub fn write_items(state: &mut RunState, skip: bool, items: &[Value]) -> Result<(), OutputFull>

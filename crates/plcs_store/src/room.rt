@@ -9,7 +9,7 @@ use crate::operands::{Arguments, OperandValues};
 use crate::output::Output;
 
 impl Frames {
-    /// For how many more frames a run has room, which it has always.
+    /// Room that a run has always: for how many more frames.
     pub fn room(&self) -> usize
         ensures { result ≡ room_beside most_frames self.now }
     {
@@ -18,7 +18,7 @@ impl Frames {
 }
 
 impl Loops {
-    /// For how many more loops a run has room in a frame, which it has always.
+    /// Room that a run has always: for how many more loops in a frame.
     pub fn room(&self) -> usize
         ensures { result ≡ room_beside most_loops self.now }
     {
@@ -27,7 +27,7 @@ impl Loops {
 }
 
 impl Output {
-    /// For how many more bytes of output a run has room, which it has always.
+    /// Room that a run has always: for how many more bytes of output.
     pub fn room(&self) -> usize
         ensures { result ≡ room_beside most_output self.now }
     {
@@ -36,7 +36,7 @@ impl Output {
 }
 
 impl OperandValues {
-    /// For how many more values of operands a run has room, which it has always.
+    /// Room that a run has always: for how many more values of operands.
     pub fn room(&self) -> usize
         ensures { result ≡ room_beside most_operands self.now }
     {
@@ -45,7 +45,7 @@ impl OperandValues {
 }
 
 impl Arguments {
-    /// For how many more arguments a run has room, which it has always.
+    /// Room that a run has always: for how many more arguments.
     pub fn room(&self) -> usize
         ensures { result ≡ room_beside most_operands self.now }
     {

@@ -18,7 +18,8 @@ pub struct RunState {
     pub operands: Operands,
 }
 
-/// A run that stands still: what it is in, why it stands still, and what is kept of its program.
+/// What a run is in, with what belongs to it while it stands still: why it does, and what is kept of its
+/// program.
 #[derive(Drop)]
 pub struct Run {
     /// What the run is in.

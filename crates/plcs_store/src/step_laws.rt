@@ -66,8 +66,8 @@ pub fn steps_do_allowed_acts()
     slots_stand();
 }
 
-/// Where its program isn't edited a run may be resumed: the program is as it was when that which was kept was
-/// taken from it.
+/// A run whose program isn't edited may be resumed: the program is as it was when that which was kept was taken
+/// from it.
 pub fn unedited_may_resume()
     ensures { UneditedResumes }
 {}

@@ -55,7 +55,7 @@ impl Variable {
         }
     }
 
-    /// Which of the variable's cells a subscript means, counted from 0.
+    /// Which of its cells a variable of a frame means by a subscript, counted from 0.
     fn element_by(&self, number: i32) -> Result<u32, FaultKind>
         ensures { found_or_fault result ≡ element_of self.now (Some number) }
     {

@@ -39,8 +39,8 @@ impl Held {
         })
     }
 
-    /// Holds a mark by hand for the script's next cases, of the phrase in the slot and the part that are named,
-    /// or none where nothing is.
+    /// Holds, from this case of the script to the next ones, a mark by hand of the phrase in the slot and the
+    /// part that are named, or none where nothing is.
     pub fn mark(&mut self, words: &[Vec<u8>], told: &mut Told) -> Option<()>
         requires { IsTree self.old.tree }
         ensures { IsTree self.new.tree }

@@ -34,7 +34,7 @@ pub fn check(alloc: Global, tree: &mut Tree, words: &[Vec<u8>], told: &mut Told)
     set(tree, &stop, PhrasePlace::Empty)
 }
 
-/// Puts this, whose mark a case asks, into the part at the stop, if it may stand there.
+/// In a case of the marks of phrases, puts this into the part at the stop, if it may stand there.
 fn set(tree: &mut Tree, stop: &Stop, place: PhrasePlace) -> Option<()>
     requires tree { IsTree tree.old }
     requires place { IsPhrasePlace (plain_phrase_place place) }
@@ -133,8 +133,8 @@ fn tell_node(
     }
 }
 
-/// The mark of the phrase at the place: as it is kept, as it is told, and as it is checked alone. `None`
-/// where these differ, or the check is not counted as one.
+/// The mark of one of the phrases that the program has: as it is kept, as it is told, and as it is checked
+/// alone. `None` where these differ, or the check is not counted as one.
 fn mark_of(
     tree: &Tree,
     decls: &Decls,

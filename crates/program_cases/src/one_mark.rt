@@ -1,4 +1,4 @@
-//! A mark by hand.
+//! A mark by hand, for the one phrase that a case names.
 
 use plcs_base::{MarkKind, Marked, PhraseAt};
 use std::cmp::Ordering;

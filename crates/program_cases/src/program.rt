@@ -21,7 +21,7 @@ pub fn read_program(alloc: Global, tree: &mut Tree, text: &[Vec<u8>], told: &mut
     Some(())
 }
 
-/// The lines of text that are read as a program as one, each with its end.
+/// The lines of text of a program that is read, as one text, each with its end.
 fn listing_of(alloc: Global, text: &[Vec<u8>]) -> Result<Vec<u8>, AllocError> {
     let mut listing = Vec::new(alloc);
     for line in text {

@@ -27,12 +27,12 @@ pub struct Screens {
 }
 
 impl Screens {
-    /// Two blank grids of the least size.
+    /// Two grids of the least size, on which no view is drawn yet, to be painted one over the other.
     pub fn new(alloc: Global) -> Result<Screens, AllocError> {
         Screens::blank(alloc, FEWEST_ROWS, FEWEST_COLS)
     }
 
-    /// Two blank grids of this size, on which views are drawn later.
+    /// Two blank grids of this size. A case draws a view on one more, which comes behind them.
     fn blank(alloc: Global, rows: u16, cols: u16) -> Result<Screens, AllocError>
         requires least_rows { FEWEST_ROWS ≤ rows }
         requires most_rows { rows ≤ MOST_ROWS }

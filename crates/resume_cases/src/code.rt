@@ -13,7 +13,7 @@ use std::alloc::Global;
 use template_tree::Tree;
 use type_marks::Marks;
 
-/// The code of the program, under its own marks and by its own items, or `None` where memory runs out.
+/// The code of a program, made anew under its own marks and by its own items, or `None` where memory runs out.
 pub(crate) fn code_of(alloc: Global, tree: &Tree) -> Option<FlatCode<Counts>>
     requires { IsTree tree.now }
     ensures { IfSome result (IsTreesCode tree.now) }
@@ -22,7 +22,7 @@ pub(crate) fn code_of(alloc: Global, tree: &Tree) -> Option<FlatCode<Counts>>
     code_by(alloc, tree, &decls)
 }
 
-/// The code of the program, whose table of declarations this is.
+/// The code of the program, made anew, whose table of declarations this is.
 fn code_by(alloc: Global, tree: &Tree, decls: &Decls) -> Option<FlatCode<Counts>>
     requires tree { IsTree tree.now }
     requires decls { IsDeclsOf decls.now tree.now.items }
@@ -34,7 +34,7 @@ fn code_by(alloc: Global, tree: &Tree, decls: &Decls) -> Option<FlatCode<Counts>
     }
 }
 
-/// The code of the program, whose marks and table of declarations these are.
+/// The code of the program, made anew, whose marks and table of declarations these are.
 fn code_under(
     alloc: Global,
     tree: &Tree,

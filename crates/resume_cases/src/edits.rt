@@ -145,7 +145,7 @@ fn elide_under(
     Some(tree.elide(at))
 }
 
-/// Makes the edit at the stop that the words say.
+/// Makes the change of a bench's program that the words say, an edit at the stop.
 fn edit_at(
     alloc: Global,
     bench: &mut Bench,
@@ -178,7 +178,7 @@ fn edit_at(
     })
 }
 
-/// The phrase of the category that the text is, if it may stand in a part.
+/// For a change of the program, the phrase of the category that the text is, if it may stand in a part.
 fn phrase(alloc: Global, category: Category, text: &[u8]) -> Option<Phrase>
     ensures { IfSome result (λ phrase. IsPhrasePlace (Some (plain_phrase phrase))) }
 {
@@ -320,7 +320,7 @@ fn make_alone(alloc: Global, tree: &mut Tree, at: &Stop, edit: Edit) -> Result<C
     }
 }
 
-/// Tells what an edit did in which slot of which procedure.
+/// Tells what a change of the bench's program did in which slot of which procedure.
 fn tell_change(change: Change, told: &mut Told) {
     told.text("slot ");
     told.value(&change.slot.0);

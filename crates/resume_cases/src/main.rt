@@ -88,7 +88,8 @@ fn play_words(held: &mut Held, words: &[Vec<u8>], told: &mut Told) -> Option<()>
     play(held, meaning(&CALLS, word.as_slice())?, words, told)
 }
 
-/// Makes the call of a case that changes the program, the run or the scene, if it takes these words.
+/// Plays one of the script's cases on suspended runs, if it is one that takes these words; most change the
+/// program, the run or the scene.
 fn play(held: &mut Held, call: Call, words: &[Vec<u8>], told: &mut Told) -> Option<()>
     requires { IsBench held.old.bench }
     ensures { IsBench held.new.bench }
@@ -110,7 +111,8 @@ fn play(held: &mut Held, call: Call, words: &[Vec<u8>], told: &mut Told) -> Opti
     }
 }
 
-/// Makes the call of a case that leaves all as it is, if it takes these words.
+/// Plays one of the script's cases on suspended runs, if it is one that leaves all as it is and takes these
+/// words.
 fn ask(bench: &Bench, input: &[u8], call: Call, words: &[Vec<u8>], told: &mut Told) -> Option<()>
     requires { IsBench bench.now }
 {

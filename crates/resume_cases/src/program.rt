@@ -57,7 +57,7 @@ fn take(bench: &mut Bench, tree: Tree)
     bench.tree = tree;
 }
 
-/// Tells how many slots the program of the bench has.
+/// Tells how many slots the program of the bench has, the new one or the one that was read.
 fn tell_slots(bench: &Bench, told: &mut Told)
     requires { IsBench bench.now }
 {
@@ -65,7 +65,7 @@ fn tell_slots(bench: &Bench, told: &mut Told)
     told.line(" slots");
 }
 
-/// The lines of text as the listing of a program, each with its end.
+/// The listing from which the program of a bench is read: the lines of text, each with its end.
 pub(crate) fn listing_of(alloc: Global, text: &[Vec<u8>]) -> Result<Vec<u8>, AllocError> {
     let mut listing = Vec::new(alloc);
     for line in text {

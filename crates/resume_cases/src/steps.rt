@@ -30,7 +30,8 @@ pub(crate) fn run(bench: &mut Bench, told: &mut Told) -> Option<()>
     Some(())
 }
 
-/// A new run of the program, without history, or `None` where memory runs out.
+/// A new run of the program, of which no step is made that could be taken back, or `None` where memory runs
+/// out.
 fn begun(alloc: Global, tree: &Tree) -> Option<Suspended>
     requires { IsTree tree.now }
     ensures { IfSome result (SuspendedIn tree.now) }
@@ -43,7 +44,7 @@ fn begun(alloc: Global, tree: &Tree) -> Option<Suspended>
     })
 }
 
-/// The state of a new run of the program, or `None` where memory runs out.
+/// The state of a run of the program before its first step, or `None` where memory runs out.
 fn first_state(alloc: Global, tree: &Tree) -> Option<RunState>
     requires { IsTree tree.now }
     ensures fits { IfSome result (λ state. Fits tree.now.items (plain_configuration state)) }
@@ -168,8 +169,8 @@ fn is_stepped(
     }
 }
 
-/// Tries a step of a run by the code of its program. What came of it, or `None` where memory runs out, and then
-/// nothing is changed.
+/// In a case that makes steps of a bench's run, tries one by the code of its program. What came of it, or
+/// `None` where memory runs out, and then nothing is changed.
 fn try_step(
     alloc: Global,
     tree: &Tree,
@@ -196,7 +197,7 @@ fn try_step(
     }
 }
 
-/// Why a run stands still of which a step isn't made for this reason.
+/// Where a step of the bench's run isn't made for this reason, why the run then stands still.
 fn reason_of(reason: Reason) -> RunReason {
     match reason {
         Reason::Placeholder => RunReason::Placeholder,

@@ -13,7 +13,8 @@ use template_tree::{Stop, Tree, copy_path};
 /// The most parts that a node has.
 const MOST_PARTS: u32 = 4;
 
-/// The visible stop that a word says: a slot, for the node in it, or a slot and after a colon a part of that node.
+/// The visible stop of the program that a word says by a slot, for the node in it, or by a slot and after a
+/// colon a part of that node.
 pub(crate) fn stop_of(tree: &Tree, word: &[u8]) -> Option<Stop>
     requires { IsTree tree.now }
     ensures { IfSome result (λ stop. IsStop (roomless_tree tree.now).items (plain_stop stop)) }
@@ -40,7 +41,8 @@ fn node_stop(tree: &Tree, slot: Slot) -> Option<Stop>
     }
 }
 
-/// The stop of this part of the node whose stop is given, or `None` where it has no such part.
+/// The stop of the program at this part of the node in a slot, by that node's own stop; `None` where it has no
+/// such part.
 fn part_stop(tree: &Tree, node: Stop, part: u8) -> Option<Stop>
     requires tree { IsTree tree.now }
     requires stop { IsStop (roomless_tree tree.now).items (plain_stop node) }

@@ -1,4 +1,5 @@
-//! How runs are told: where they stand, their frames, what is in their cells, and what they wrote.
+//! How runs that stand still are told: why and where, how far they can be taken back, their frames, what is in
+//! their cells, and what they wrote.
 
 use crate::bench::Bench;
 use crate::suspended::Suspended;
@@ -15,7 +16,7 @@ pub(crate) fn tell_place(suspended: &Suspended, told: &mut Told) {
     told.line("");
 }
 
-/// Tells why the run stands still, and where, and how many of its steps can be taken back.
+/// Tells how a run stands: why it stands still, and where, and how many of its steps can be taken back.
 pub(crate) fn tell_paused(suspended: &Suspended, told: &mut Told) {
     told.value(&suspended.run.reason);
     told.text(" ");
@@ -28,7 +29,7 @@ pub(crate) fn tell_paused(suspended: &Suspended, told: &mut Told) {
     told.line(" held");
 }
 
-/// Tells a place: its slot and its point.
+/// Tells where a run stands: the slot and the point of the place.
 fn put_place(place: Place, told: &mut Told) {
     told.text("at ");
     told.value(&place.slot.0);
@@ -99,7 +100,7 @@ fn tell_cell(cell: &Cell, told: &mut Told) {
     told.line("");
 }
 
-/// Tells a value: a number, whether a bit is on, or the bytes of a text.
+/// Tells the value in a cell of a run that stands still: a number, whether a bit is on, or the bytes of a text.
 fn put_value(value: &Value, told: &mut Told) {
     match value {
         Value::Fixed(number) => told.value(number),

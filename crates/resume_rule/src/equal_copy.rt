@@ -45,7 +45,8 @@ fn copied_part(kept: &CopiedParts, part: u8) -> Option<&PhrasePlace>
     kept.as_slice().get(part as usize)
 }
 
-/// Whether the copied parts end before the one of this number.
+/// Whether the parts that are kept end before this number, so that none is left to compare with what there is
+/// now.
 fn is_last_part(kept: &CopiedParts, part: u8) -> bool
     ensures { IsTrue result ↔ (slice_get kept.now part ≡ None) }
 {
@@ -65,7 +66,7 @@ fn is_copied(place: &PhrasePlace, kept: &CopiedParts, part: u8) -> bool
     }
 }
 
-/// Whether the same phrase stands in both parts, or nothing in either.
+/// Whether what is kept of a part is as what stands in it now: the same phrase, or nothing.
 fn is_same_place(one: &PhrasePlace, other: &PhrasePlace) -> bool
     ensures { IsTrue result ↔ (plain_phrase_place one.now ≡ plain_phrase_place other.now) }
 {

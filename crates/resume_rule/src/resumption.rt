@@ -83,8 +83,8 @@ fn first_refusal(
     }
 }
 
-/// The first cause for which a run may not be resumed that a frame gives, with what is kept for it: its heading
-/// is asked for first, then what is declared, and then what stands at its place.
+/// Whether a run may be resumed, as far as this one of its frames goes, with what is kept for it: the first
+/// cause against it, of its heading, then of what is declared, and then of what stands at its place.
 fn frame_refusal(
     tree: &Tree,
     decls: &Decls,

@@ -13,7 +13,7 @@ use Rattle.plcs_store.specs.Configuration.{PlainConfiguration, plain_configurati
 use Rattle.plcs_store.specs.Fits.{Fits}
 use Rattle.back_steps.specs.EarlierConfigurations.{CanGoBack, configurations_before}
 
--- the code is that of some program, by its own marks and effective items
+-- the code by which a case's run goes is that of some program, by the program's own marks and effective items
 pub record IsProgramCode (code : PlainCode) : Type 0 where
   pub tree : PlainTree
   pub marks : MarkMap
@@ -28,7 +28,7 @@ pub record IsRunOf (code : PlainCode) (c : PlainConfiguration) : Type 0 where
   pub program : IsProgramCode code
   pub fits : Fits program.tree.items c
 
--- a run by the code stands between two steps, and the room for operands is empty
+-- what a run by the code of a program is in between two steps: there the room for operands is empty
 pub record StandsByCode (code : PlainCode) (state : RunState) : Type 0 where
   pub run : IsRunOf code (plain_configuration state)
   pub values : state.operands.values ≡ []

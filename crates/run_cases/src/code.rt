@@ -15,7 +15,7 @@ use std::alloc::Global;
 use template_tree::Tree;
 use type_marks::Marks;
 
-/// What the code is asked.
+/// What a case asks of the code of the program.
 #[derive(Clone, Copy)]
 pub(crate) enum Question {
     /// All of its instructions.
@@ -190,7 +190,7 @@ fn tell_spans(code: &FlatCode<Counts>, slots: u32, told: &mut Told) {
     }
 }
 
-/// The place in code that a slot and a point are.
+/// The place in the code of the program that the words of a case say, a slot and a point.
 fn place_of(slot: &[u8], point: &[u8]) -> Option<Place> {
     let slot = Slot(number_of(slot)?);
     let point = Point(u16::try_from(number_of(point)?).ok()?);

@@ -17,7 +17,7 @@ pub(crate) fn read(tree: &mut Tree, text: &[Vec<u8>], told: &mut Told) -> Option
     Some(())
 }
 
-/// The lines of text as the listing of a program, each with its end.
+/// The listing of the program whose code is asked: the lines of text, each with its end.
 fn listing_of(alloc: Global, text: &[Vec<u8>]) -> Result<Vec<u8>, AllocError> {
     let mut listing = Vec::new(alloc);
     for line in text {

@@ -80,7 +80,7 @@ fn play_steps(
     Some(())
 }
 
-/// A new run of the code, if there is memory for it.
+/// The new run of the program's code of which a case tells, if there is memory for it.
 fn begin(alloc: Global, code: &FlatCode<Counts>) -> Option<Run>
     requires { IsProgramCode code.now }
     ensures { IfSome result (λ run. StandsByCode code.now run.state) }
@@ -108,7 +108,7 @@ fn new_state(alloc: Global, code: &FlatCode<Counts>, work: &mut Counts) -> Optio
     }
 }
 
-/// Steps of a run.
+/// The steps that were made of a new run of the program's code.
 #[derive(Clone, Copy)]
 struct Made {
     /// How many were made.
@@ -190,7 +190,8 @@ fn make_checked_step(
     Some(answer)
 }
 
-/// Takes the last step of the run back and makes it again, and tells where it isn't as before then, or as after it.
+/// Takes the last step of a new run of the program's code back and makes it again, and tells where it isn't as
+/// before then, or as after it.
 fn remake_step(
     decls: &Decls,
     code: &FlatCode<Counts>,

@@ -1,4 +1,5 @@
-//! What a run is in, as it is told.
+//! What a run is in, as it is told: how much of its input was taken, what was written, and its frames with their
+//! loops, variables and cells.
 
 use crate::value;
 use case_script::Told;
@@ -32,7 +33,7 @@ pub(crate) fn tell_state(decls: &Decls, state: &RunState, told: &mut Told) {
     }
 }
 
-/// Tells what was written, or of more than 200 bytes how many.
+/// Of what a run is in, tells what was written, or of more than 200 bytes how many.
 pub(crate) fn tell_written(output: &[u8], told: &mut Told) {
     if output.len() > MOST_SHOWN {
         told.value(&output.len());
@@ -42,7 +43,8 @@ pub(crate) fn tell_written(output: &[u8], told: &mut Told) {
     }
 }
 
-/// Tells where the newest frame of a run stands, and the number of the frame, counted from 0 at main's.
+/// Of what a run is in, tells where its newest frame stands, and the number of the frame, counted from 0 at
+/// main's.
 pub(crate) fn tell_place(state: &RunState, told: &mut Told) {
     if let Some(place) = state.frames.place() {
         tell_at(place, told);
@@ -51,7 +53,7 @@ pub(crate) fn tell_place(state: &RunState, told: &mut Told) {
     told.value(&state.frames.count().saturating_sub(1));
 }
 
-/// Tells a place.
+/// Tells at which place a run is.
 fn tell_at(place: Place, told: &mut Told) {
     told.text(", at ");
     told.value(&place.slot.0);
@@ -59,8 +61,8 @@ fn tell_at(place: Place, told: &mut Told) {
     told.value(&place.point.0);
 }
 
-/// Tells what is in a frame: its procedure, its place, its loops from the outermost inward, and its variables in
-/// the order in which they are declared.
+/// Of what a run is in, tells a frame: its procedure, its place, its loops from the outermost inward, and its
+/// variables in the order in which they are declared.
 fn tell_frame(decls: &Decls, frame: &Frame, told: &mut Told) {
     told.text(" of ");
     told.value(&frame.procedure.0);
@@ -77,7 +79,7 @@ fn tell_frame(decls: &Decls, frame: &Frame, told: &mut Told) {
     }
 }
 
-/// Tells a loop that a frame keeps.
+/// Tells a loop that a frame keeps in what the run is in.
 fn tell_loop(kept: KeptLoop, told: &mut Told) {
     told.text(", loop ");
     told.value(&kept.slot.0);
@@ -87,7 +89,7 @@ fn tell_loop(kept: KeptLoop, told: &mut Told) {
     told.value(&kept.step);
 }
 
-/// Tells the variable of the name of a frame, if there is one.
+/// Tells a variable of what the run is in: the one of a frame that has the name, if there is one.
 fn tell_named(frame: &Frame, name: &Name, told: &mut Told) {
     if let Some(variable) = frame.cells.get(name) {
         put_bytes(name.as_bytes(), told);
@@ -96,7 +98,7 @@ fn tell_named(frame: &Frame, name: &Name, told: &mut Told) {
     }
 }
 
-/// Tells a variable: its type, the size of an array, and its cells.
+/// Tells a variable, as a part of what a run is in: its type, the size of an array, and its cells.
 fn tell_variable(variable: &Variable, told: &mut Told) {
     told.value(&variable.ty);
     if variable.size > 0 {

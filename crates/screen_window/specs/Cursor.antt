@@ -18,7 +18,7 @@ pub record CursorPosition : Type 0 where
   pub row : ℕ
   pub col : ℕ
 
--- the column of the cursor, or the last but one where it lies beyond
+-- the column in which the cursor stands on the screen, or the last but one where it lies beyond
 abbrev pub cut_col : ℕ → ℕ → ℕ
 cut_col cols col = min col (cols - 1)
 
@@ -30,7 +30,7 @@ typed_position rows cols view = record { row = rows; col = cut_col cols (length 
 
 -- ---- at the stop
 
--- whether a stretch of the cursor's line stands in the part of the number, at which the cursor is
+-- whether the cursor stands on the screen in a stretch of its line: that of the part of the number, if it is at one
 abbrev pub is_part : ℕ → Option ℕ → Bool
 is_part part None = false
 is_part part (Some own) = own == part

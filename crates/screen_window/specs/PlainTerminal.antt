@@ -34,8 +34,8 @@ pub record IsTerminal (z : PlainTerminal) : Type 0 where
   pub above : z.above < z.rows
   pub before : z.before < z.cols
 
--- a terminal as plain data shows a grid of its size: its cells and cursor are the grid's, its image is the default one,
--- and no sequence is unfinished
+-- when a terminal as plain data shows a grid of its size: its cells and cursor are the grid's, its image is the default
+-- one, and no sequence is unfinished
 pub record Shows (z : PlainTerminal) (g : PlainGrid) : Type 0 where
   pub rows : z.rows ≡ g.rows
   pub cols : z.cols ≡ g.cols

@@ -18,7 +18,7 @@ abbrev pub run_line : Forest → Option Place → Option NodeLine
 run_line items None = None
 run_line items (Some place) = place_line place.slot.0 place.point.0 items
 
--- whether a laid line of the window is the run's line, if there is one
+-- whether a laid line that a row of the window shows is the run's line, if there is one
 abbrev pub is_run_line : Option NodeLine → PlainLine → Bool
 is_run_line None laid = false
 is_run_line (Some line) laid = is_line line laid

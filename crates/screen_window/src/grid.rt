@@ -105,7 +105,7 @@ impl Grid {
 }
 
 impl Grid {
-    /// Sets a row of the grid, which counts from 0, so that a screen shows what is written in it.
+    /// Sets a row of this grid, which counts from 0, so that the grid shows what is written in the row.
     pub(crate) fn show(&mut self, row: u16, text: RowText<'_>)
         requires { row < self.old.rows }
         ensures { self.new ≡ with_row self.old row (shown_row self.old.cols (text_cells self.old.cols text.entry)) }

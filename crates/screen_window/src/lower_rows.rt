@@ -85,7 +85,7 @@ pub fn message_row<'a, M: Marked>(
     }
 }
 
-/// The mark of the phrase or the assignment at the cursor, if it has one.
+/// The mark for the row of the message: that of the phrase or the assignment at the cursor, if it has one.
 fn cursor_mark<M: Marked>(tree: &Tree, stop: &Stop, marks: &M) -> Option<MarkKind>
     requires { IsTree tree.now }
     ensures { result

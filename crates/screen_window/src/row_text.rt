@@ -75,7 +75,7 @@ fn show_cells(line: &mut Vec<u16>, from: usize, cells: &[u16])
     }
 }
 
-/// Shows dashes in all columns of a row but the last.
+/// Writes dashes in one row of a grid, so that its cells show them in all columns but the last.
 fn show_dashes(line: &mut Vec<u16>)
     ensures { line.new.items ≡ shown_row (length line.old.items) (replicate (length line.old.items - 1) 45) }
 {

@@ -161,7 +161,7 @@ impl Terminal {
         }
     }
 
-    /// Does to the terminal what a whole sequence of one digit and this byte says, if it says something.
+    /// Does to the plain terminal what a whole sequence of one digit and this byte says, if it says something.
     fn end_after_digit(&mut self, digit: u16, byte: u8)
         ensures { self.new ≡ ended_after_digit self.old digit byte }
     {

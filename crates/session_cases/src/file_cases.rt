@@ -14,7 +14,7 @@ pub fn files(alloc: Global, scene: &mut Scene, fails: &[Vec<u8>]) -> Option<()> 
     Some(())
 }
 
-/// No files, of which the calls of these numbers fail.
+/// For a case of files: files that runs find, none yet, of which the calls of these numbers fail.
 pub fn failing_files(alloc: Global, fails: &[Vec<u8>]) -> Option<MemFiles> {
     Some(MemFiles::new(alloc, numbers_of(alloc, fails)?))
 }
@@ -47,7 +47,7 @@ pub fn content(scene: &mut Scene, name: &[u8]) -> Option<()> {
     Some(())
 }
 
-/// Tells what the file of this name holds.
+/// For a case of files, tells what the file of this name holds, as a run finds or leaves it.
 pub fn tell_content(files: &MemFiles, name: &[u8], told: &mut Told) {
     match files.content(name) {
         Some(bytes) => told.word_line(bytes),

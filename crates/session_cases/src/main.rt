@@ -58,7 +58,7 @@ fn play_line(alloc: Global, scene: &mut Scene, line: &[u8]) -> io::Result<()> {
     Ok(())
 }
 
-/// Plays a case on whole sessions, if it is one.
+/// Plays one of the script's cases on whole sessions, if the line is one.
 fn play_case(alloc: Global, scene: &mut Scene, case: &[u8]) -> Option<()> {
     match words_of(alloc, case) {
         Ok(Some(words)) => play_words(alloc, scene, words.as_slice()),

@@ -62,7 +62,8 @@ pub fn compare_screen(
     Some(())
 }
 
-/// Whether terminals that take these bytes, painted over or anew, show the same.
+/// Whether a terminal shows the same of screens that are painted over one another, by the first bytes, as of
+/// screens that are painted anew, by the others.
 fn show_the_same(alloc: Global, bytes: &[u8], others: &[u8]) -> Option<bool> {
     let terminal = terminal_of(alloc, (12, 40), bytes)?;
     let other = terminal_of(alloc, (12, 40), others)?;

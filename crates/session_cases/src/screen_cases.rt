@@ -31,7 +31,7 @@ fn tell_screen(alloc: Global, size: (u16, u16), played: &Played, told: &mut Told
     Some(())
 }
 
-/// The size that these words ask for, if screens have it.
+/// The size that these words of a case of screens ask for, if screens have it.
 fn size_of(rows: &[u8], cols: &[u8]) -> Option<(u16, u16)>
     ensures least_rows { IfSome result (λ size. FEWEST_ROWS ≤ size.0) }
     ensures most_rows { IfSome result (λ size. size.0 ≤ MOST_ROWS) }
@@ -55,7 +55,7 @@ fn number_within(word: &[u8], least: u16, most: u16) -> Option<u16>
     Some(number)
 }
 
-/// A terminal of this size that has taken these bytes.
+/// A terminal of this size that shows what a run painted with these bytes.
 pub fn terminal_of(alloc: Global, size: (u16, u16), bytes: &[u8]) -> Option<Terminal>
     requires least_rows { FEWEST_ROWS ≤ size.0 }
     requires most_rows { size.0 ≤ MOST_ROWS }

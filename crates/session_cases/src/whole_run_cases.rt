@@ -72,7 +72,7 @@ pub fn fail(alloc: Global, scene: &mut Scene, kind: &[u8], number: &[u8]) -> Opt
 /// The words of what fails in a whole run.
 static KINDS: [(&[u8], Kind); 2] = [(b"read", Kind::Read), (b"write", Kind::Write)];
 
-/// What fails in a whole run: a read of keys or a write of a screen.
+/// What a case of whole runs has fail: a read of keys or a write of a screen.
 #[derive(Clone, Copy)]
 enum Kind {
     Read,
@@ -106,7 +106,8 @@ fn tell_behind(whole: &[u8], part: &[u8], told: &mut Told) {
     }
 }
 
-/// How many pieces of a whole run's writing the part is, if it is the first pieces of the whole.
+/// In a case of whole runs, how many pieces of a run's writing the part is, if it is the first pieces of the
+/// whole.
 fn first_pieces(whole: &[u8], part: &[u8]) -> Option<usize> {
     let behind = whole.strip_prefix(part)?;
     if part.is_empty() || behind.is_empty() || is_place(behind) {

@@ -34,7 +34,7 @@ takes_memory PlainEdit.delete stop = false
 takes_memory PlainEdit.take stop = false
 takes_memory (PlainEdit.beside side) stop = true
 
--- whether an edit is answered to be made, and not refused
+-- whether an edit at the stop of the cursor is answered to be made, and not refused
 abbrev pub is_made : Edited → Bool
 is_made (Edited.became tree stop taken what slot) = true
 is_made (Edited.refused fault) = false

@@ -67,8 +67,8 @@ is_spare_hole items stop node =
     (is_none stop.part && is_hole node.label.kind)
     && (is_list_item items stop.path && nat_lt 1 (how_many (sort_of node.label.kind) (sorts (siblings_at items stop.path))))
 
--- the path of the nearest item of a list beside which a hole can come: the longest of the first so many numbers of a
--- path that leads to one
+-- beside what a hole can come at a stop: the nearest item of a list, whose path is the longest of the first so many
+-- numbers of a path that leads to one
 abbrev pub nearest_item : Forest → List ℕ → ℕ → Option (List ℕ)
 nearest_item items path zero = None
 nearest_item items path (suc n) = if is_list_item items (take (suc n) path) then Some (take (suc n) path) else nearest_item items path n

@@ -34,7 +34,7 @@ pub(crate) fn delete(alloc: Global, tree: &mut Tree, at: &Stop) -> Result<Applie
     take_out(alloc, tree, at)
 }
 
-/// The hole at the cursor is dropped, if one is there in a list of two or more.
+/// The hole at the cursor is deleted, if one is there in a list of two or more: it is dropped from the list.
 fn drop_hole(tree: &mut Tree, at: &Stop) -> Option<Applied>
     requires tree { IsTree tree.old }
     requires stop { IsStop (roomless_tree tree.old).items (plain_stop at.now) }
@@ -63,7 +63,7 @@ fn drop_hole(tree: &mut Tree, at: &Stop) -> Option<Applied>
     })
 }
 
-/// The sort of the node at the path, if there is one, by which the list of a dropped hole is told.
+/// The sort of the node at the path, if there is one, by which the list is told from which a hole is deleted.
 fn sort_at(tree: &Tree, path: &Path) -> Option<Sort>
     requires tree { IsTree tree.now }
     ensures { result ≡ option_map (λ node. sort_of node.label.kind) (node_at tree.now.items path.now.items) }

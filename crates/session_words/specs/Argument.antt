@@ -55,7 +55,7 @@ text_in (byte ∷ rest) = Some (byte ∷ rest)
 abbrev pub is_file_byte : ℕ → Bool
 is_file_byte byte = is_printable byte && not (is_blank byte)
 
--- how many bytes an argument may have that is a file name
+-- how many bytes the argument of a command may have that is a file name
 abbrev pub longest_file_name : ℕ
 longest_file_name = LONGEST_FILE_NAME
 

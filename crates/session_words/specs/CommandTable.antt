@@ -8,7 +8,7 @@ use Rattle.session_words.specs.PlainCommand as command
 use Rattle.session_words.specs.Argument as argument
 use Rattle.session_words.specs.Argument.{PlainArgumentRule}
 
--- a command as a row of the table: its word, and what it takes behind its word
+-- a row of the table of commands: the word of one, and what it takes behind its word
 pub record PlainCommandRow : Type 0 where
   pub word : List ℕ
   pub rule : PlainArgumentRule

@@ -22,7 +22,7 @@ plain_row_of_words number words = record { number = number; words = words; value
 abbrev pub numbered_row : ℕ → List ℕ → ℕ → PlainRefusalRow
 numbered_row number words n = record { number = number; words = words; value = Some n }
 
--- the row of the message that answers a key with each refusal: the number of its kind, and the words of its text
+-- the row of each message that answers a key with a refusal: the number of its kind, and the words of its text
 abbrev pub refusal_row : RefusalMessage → PlainRefusalRow
 refusal_row refusal.UnknownCommand = plain_row_of_words 1 (codes "UNKNOWN COMMAND")
 refusal_row refusal.NotHere = plain_row_of_words 2 (codes "NOT HERE")

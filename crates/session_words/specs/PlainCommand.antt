@@ -53,7 +53,7 @@ plain_command (asked.Load file) = PlainCommand.load file.now
 plain_command (asked.Code n) = PlainCommand.code n
 plain_command asked.Quit = PlainCommand.quit
 
--- what a line is read as: a command as plain data, or why there is none
+-- as plain data, what a line is read as: a command, or why there is none
 abbrev pub PlainReading : Type 0
 PlainReading = Result PlainCommand CommandFault
 

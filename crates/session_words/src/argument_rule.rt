@@ -93,7 +93,7 @@ pub enum Texted {
     Input,
 }
 
-/// The commands that take the name of a file behind their words.
+/// Which command comes of the name of a file behind its word.
 #[derive(Clone, Copy)]
 pub enum Filed {
     /// `Command::Save`

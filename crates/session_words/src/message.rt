@@ -122,7 +122,7 @@ struct RefusalRow {
 }
 
 impl Message {
-    /// The text of a message, its words with the number behind them, as the message row shows it.
+    /// The text of this message that answers a key, as the message row shows it.
     #[tactic(auto, unfolding(crate::specs::Message::message_text))]
     pub fn text(self) -> MessageText
         ensures { result ≡ message_text self }
@@ -227,7 +227,8 @@ impl Notice {
     }
 }
 
-/// The row of a message that answers a key with a refusal, of which the words have no number behind them.
+/// The row of one of the messages that answer keys, one of a refusal, of which the words have no number behind
+/// them.
 fn row_of(number: u8, words: &'static [u8]) -> RefusalRow
     ensures number { result.number ≡ number }
     ensures words { result.words.now ≡ words.entry.now }

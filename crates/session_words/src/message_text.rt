@@ -24,7 +24,7 @@ impl Model for MessageText {
 }
 
 impl MessageText {
-    /// The text where there is no message: no bytes.
+    /// The text of a message where there is none: no bytes.
     pub fn none() -> MessageText
         ensures { result ≡ [] }
     {

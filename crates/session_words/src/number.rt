@@ -7,7 +7,7 @@ ghost use Rattle.session_words.specs.Argument.{number_between};
 use plcs_base::is_digit;
 use plcs_grammar::numeral_value;
 
-/// The number that the argument is, with any count of digits, where it lies between the two bounds,
+/// The number that an argument is in decimal digits, any count of them, where it lies between the two bounds,
 /// which are part of the range.
 #[tactic(auto, unfolding(crate::specs::Argument::number_between))]
 pub fn number_between(least: u32, most: u32, text: &[u8]) -> Option<u32>

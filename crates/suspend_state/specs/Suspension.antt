@@ -9,7 +9,7 @@ use Rattle.plcs_store.specs.Configuration.{plain_configuration}
 use Rattle.plcs_store.specs.Fits.{Fits}
 use Rattle.plcs_store.specs.Resume.{IsKeptOf}
 
--- a run in the state as it is made: paused, with nothing kept
+-- a run in the state as it is made: paused, as one that is suspended, with nothing kept of its program
 abbrev pub paused : RunState → Run
 paused state = record { state = state; reason = RunReason.Paused; kept = None }
 
@@ -17,7 +17,7 @@ paused state = record { state = state; reason = RunReason.Paused; kept = None }
 abbrev pub with_reason : RunReason → Run → Run
 with_reason reason run = record run { reason = reason }
 
--- a run of which nothing is kept yet fits the program
+-- a suspended run that keeps nothing of its program yet fits that program
 abbrev pub FitsUnlessKept : (program : Forest) → Run → Type 0
 FitsUnlessKept program run = run.kept ≡ None → Fits program (plain_configuration run.state)
 

@@ -13,7 +13,7 @@ use plcs_grammar::{NodeKind, Template};
 use plcs_store::Frames;
 use template_tree::{Node, Tree, items_are_nodes};
 
-/// Puts the newest frame, if it stands at point 0 of a slot, where a run begins that comes to the slot.
+/// Has the newest frame, if it stands at point 0 of a slot, stand where a run begins that comes to the slot.
 pub(crate) fn resolve_frames(tree: &Tree, frames: &mut Frames)
     requires tree { IsTree tree.now }
     ensures { frames.new ≡ with_newest (resolved_frame tree.now.items) frames.old }

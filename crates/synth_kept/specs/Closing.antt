@@ -38,7 +38,7 @@ pub record IsNotCleared (fault : DiskFault) (run : Status) (status : KeptStatus)
   pub each : Throughout (LeavesOneOf [] keys) behind now
   pub either : Newest (LeavesOneOf [] keys) now
 
--- how the session ended, and what a crash leaves, by how the journal of these keys was closed
+-- how the session ended, and what a crash then leaves, by how the journal of these keys was closed after the run
 abbrev pub Closes : Closing → Status → KeptStatus → List ℕ → List DiskState → List DiskState → Type 0
 Closes LeftStanding run status keys behind now = IsLeftStanding run status behind now
 Closes Cleared run status keys behind now = IsCleared run status keys behind now

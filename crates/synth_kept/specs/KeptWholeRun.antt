@@ -73,7 +73,7 @@ pub record WholeRunOverKeys (options : PlainOptions) (run : Status) (closing : C
   -- perhaps others behind them
   pub keys : TellsBoth before → AreKeys (kept_keys before.past) taken last (bytes_given ended)
   pub none_lost : TellsBoth before → Newest (LeavesAllOf (bytes_given ended)) now.past
-  -- the journal is cleared exactly where a key ended the session
+  -- the journal of a session whose keys are kept is cleared exactly where a key ended it
   pub quit : TellsBoth before →
       ClearsWhere ((run ≡ Done) × IsQuit ended) closing
 
@@ -127,7 +127,8 @@ pub record KeptNotOpened (status : KeptStatus) (before now : KeptTold) (same_out
   pub outside : same_outside
   pub same : now ≡ before
 
--- a kept session ended so: its journal couldn't be opened, or the editor ran over it
+-- what became of a session whose keys are kept, by its status: its journal couldn't be opened, or the editor ran over
+-- it
 abbrev pub KeptEnded : Option PlainTask → KeptStatus → KeptTold → KeptTold → Type 0 → Type 0 →
     Type 0 → Type 0
 KeptEnded task status before now same_outside after_reads after_fault =

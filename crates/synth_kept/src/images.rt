@@ -38,7 +38,7 @@ impl Images {
         Some(())
     }
 
-    /// Finds the images after one call more.
+    /// Finds the images that a crash of the session may leave after one call more.
     fn pass(&mut self, alloc: Global, call: &DiskCall) -> Option<()> {
         match call {
             DiskCall::Write(at, piece) => {
@@ -49,14 +49,14 @@ impl Images {
         }
     }
 
-    /// Leaves the session's disk as it reads for the only image.
+    /// Has the session's disk, as it reads, be the only image that a crash of the session may leave of it.
     fn leave_disk(&mut self, alloc: Global) -> Option<()> {
         self.all.clear();
         let image = self.disk.bytes().to_vec(alloc).ok()?;
         self.all.push(image).ok()
     }
 
-    /// Writes to the disk, at a place within it or at its end.
+    /// Writes to the disk of the session of which images are made, at a place within it or at its end.
     fn write(&mut self, at: u64, piece: &[u8]) -> Option<()> {
         if at <= self.disk.bytes().len() as u64 {
             self.disk.write_at(at, piece).ok()?;
@@ -84,7 +84,8 @@ impl Images {
         Some(())
     }
 
-    /// Whether each image recovers to nothing or to these keys, and one to these.
+    /// Whether each image that a crash of the session may leave recovers to nothing or to these keys, and one
+    /// to these.
     pub fn leave(&mut self, keys: &[u8]) -> Option<bool> {
         let mut is_found = false;
         for image in &self.all {

@@ -15,7 +15,7 @@ use std::{env, io};
 use synth_outside::{StdFiles, StdSink, StdSource};
 use synth_top::{Status, words_of};
 
-/// How a session ends whose journal's file can't be opened.
+/// How the program ends where the file `JOURNAL` can't be opened.
 fn status_of(error: &io::Error) -> KeptStatus {
     match error.kind() {
         ErrorKind::OutOfMemory => KeptStatus::Run(Status::NoMemory),

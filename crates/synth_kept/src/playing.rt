@@ -106,8 +106,8 @@ impl Played {
         self.disk = disk;
     }
 
-    /// Finds what a session over a disk in memory is to write on its sink where it acts on these keys: what the
-    /// editor without a journal writes for them.
+    /// Plays the editor without a journal over these keys, to find what a session over a disk in memory is to
+    /// write on its sink where it acts on them: what that writes for them.
     pub fn find_wanted(&mut self, alloc: Global, keys: &[u8]) -> Option<()> {
         self.wanted = MemSink::new(alloc, Vec::new(alloc));
         let mut keys = source_of(alloc, keys, NEVER)?;

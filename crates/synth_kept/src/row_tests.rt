@@ -1,4 +1,4 @@
-//! What sessions write, keep on their disks and end with.
+//! Rows of tests, a session each: what it writes, keeps on its disk and ends with.
 
 use crate::images::Images;
 use crate::playing::{DONE, NEVER, Played, Words};
@@ -96,7 +96,7 @@ struct Row {
     kept: Kept,
 }
 
-/// The disk that a session finds.
+/// The disk that the session of a row finds.
 #[derive(Clone, Copy)]
 enum Found {
     /// An empty one, whose call of this number fails.
@@ -105,7 +105,7 @@ enum Found {
     Left,
 }
 
-/// What a session writes.
+/// What the session of a row writes.
 #[derive(Clone, Copy)]
 enum Written {
     /// So many pieces of the stored run.
@@ -353,7 +353,8 @@ fn first_other(alloc: Global) -> Option<(&'static str, Outcome)> {
     other_row(alloc, &mut played, &mut images)
 }
 
-/// Plays the rows in turn, up to the first one that is otherwise.
+/// Plays the sessions of the rows in turn, up to the first one that writes, keeps or ends otherwise than its
+/// row says.
 fn other_row(
     alloc: Global,
     played: &mut Played,

@@ -101,8 +101,7 @@ pub trait Files {
         ensures files { CountsAnswer (told self.old) (told self.new) result };
 }
 
-/// A law of the map of files: a commit gives its own name the new content, and every other name
-/// keeps its own.
+/// A law of files by name: a commit gives its own name the new content, and every other name keeps its own.
 #[tactic(auto, using(crate::proofs::Maps::own_content, crate::proofs::Maps::other_content))]
 pub fn commit_sets_one_name()
     ensures own { OwnContentIsSet }

@@ -86,7 +86,7 @@ impl<'a, R: rt::Files<File = File>> Files for StdFiles<'a, R> {
         }
     }
 
-    /// A write to a file of the system that takes no byte fails.
+    /// Writes to the file of the system that was begun in the current folder. A write that takes no byte fails.
     fn write(&mut self, piece: &[u8]) -> Result<usize, FilesFault> {
         match &mut self.begun {
             Some(beside) => write_once(&mut beside.file, &mut self.faults, piece),

@@ -34,7 +34,7 @@ abbrev pub unbuilt_words : List (List ℕ)
 unbuilt_words =
     codes "run" ∷ codes "step" ∷ codes "resume" ∷ codes "back" ∷ codes "trace" ∷ codes "input" ∷ codes "code" ∷ []
 
--- whether a word is that of a command which isn't built yet
+-- whether the word of a typed line, which Enter takes, is that of a command which isn't built yet
 abbrev pub is_unbuilt_word : List ℕ → Bool
 is_unbuilt_word word = list_any (bytes_eq word) unbuilt_words
 
@@ -42,11 +42,11 @@ is_unbuilt_word word = list_any (bytes_eq word) unbuilt_words
 unfoldable pub is_unbuilt : List ℕ → Bool
 is_unbuilt line = option_map_or is_unbuilt_word (command_word line) false
 
--- what `.quit` does: the session ends, and nothing is shown any more
+-- what Enter does with `.quit`: the session ends, and nothing is shown any more
 abbrev pub quit_outcome : PlainSession → KeyOutcome
 quit_outcome s = record { after = s; answer = Answer.Quit; checks = 0 }
 
--- what each command does; what one of files does depends on what they reply
+-- what Enter does with each command; what it does with one of files depends on what they reply
 abbrev pub command_outcome : PlainSession → PlainCommand → Reply → KeyOutcome
 command_outcome s (PlainCommand.template template) reply = edited_by s (PlainEdit.fill template)
 command_outcome s PlainCommand.float reply = refusal_outcome s why.FloatNotThere

@@ -33,7 +33,8 @@ acceptance_outcome s = record {
   checks = 0;
 }
 
--- what comes of a key by which the typed line is accepted: the line is typed no more
+-- what comes of a key by which the typed line is accepted: the session after it, in which the line is typed no more,
+-- and the answer
 abbrev pub line_acceptance_outcome : PlainSession → KeyOutcome
 line_acceptance_outcome s = acceptance_outcome (record s { typed = [] })
 

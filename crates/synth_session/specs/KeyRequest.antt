@@ -49,7 +49,7 @@ abbrev pub text_request : PlainSession → Option Category → Request
 text_request s None = Request.Nothing
 text_request s (Some category) = Request.Read category s.typed
 
--- what the typed line asks where it is entered
+-- what the key Enter asks, by the typed line
 abbrev pub line_request : PlainSession → Request
 line_request s =
     if length s.typed == 0

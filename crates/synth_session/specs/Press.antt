@@ -1,6 +1,6 @@
--- What each key does. A key that asks for more than one thing is refused for the first of these that holds: an unbuilt
--- command, an unknown command, a wrong argument, floating point, no clip, the wrong stop, a fault in phrase text, a
--- phrase or line that is full, a limit of trees, full clips, a file, the edge.
+-- What each key does, and the laws of refused keys. A key that asks for more than one thing is refused for the first of
+-- these that holds: an unbuilt command, an unknown command, a wrong argument, floating point, no clip, the wrong stop,
+-- a fault in phrase text, a phrase or line that is full, a limit of trees, full clips, a file, the edge.
 use Rattle.std.specs.Prelude.{◌≡◌}
 use Rattle.cursor_moves.specs.Move.{stop_down, stop_left, stop_right, stop_up}
 use Rattle.synth_session.specs.declared.key.Key.{Key}
@@ -21,7 +21,7 @@ use Rattle.synth_session.specs.TypedLine.{char_typed, last_erased, phrase_typed}
 abbrev pub without_code_display : PlainSession → PlainSession
 without_code_display s = s
 
--- what comes of a key in a session that displays no code, where this is replied to what it asks
+-- what each key does in a session that displays no code, where this is replied to what it asks
 abbrev pub key_outcome : PlainSession → Key → Reply → KeyOutcome
 key_outcome s (Char byte) reply = char_typed s byte
 key_outcome s Enter reply = line_entered s reply
@@ -45,7 +45,7 @@ RefusedKeysChangeTheMessage =
     → (press s key reply).answer ≡ Answer.Refused reason
     → (press s key reply).after ≡ record (without_code_display s) { message = refusal_text reason }
 
--- the law of the bills of refused keys: nothing is checked in such a key
+-- the law of refused keys, by their bills: nothing is checked in such a key
 abbrev pub RefusedKeysCheckNothing : Type 0
 RefusedKeysCheckNothing =
     (s : PlainSession) (key : Key) (reply : Reply) (reason : Refusal)

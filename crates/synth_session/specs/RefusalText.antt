@@ -1,4 +1,4 @@
--- The messages that are shown for refusals, and their texts.
+-- Which message is shown for each refusal of a key, and as which text.
 use Rattle.std.specs.Prelude.{ℕ, List, [], Option, Some, None}
 use Rattle.std.specs.Option.{option_map_or}
 use Rattle.phrase_parser.specs.declared.fault.PhraseFault.{PhraseFault}

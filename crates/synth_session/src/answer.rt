@@ -103,7 +103,8 @@ fn file_message(refusal: FileRefusal) -> Option<Message>
     }))
 }
 
-/// The message that is shown for an edit of the program that is refused; want of memory has none.
+/// The message of the refusal that answers a key, where an edit of the program is refused for this; want of
+/// memory has none.
 fn tree_message(fault: TreeFault) -> Option<Message>
     ensures { result ≡ tree_message fault }
 {

@@ -192,7 +192,8 @@ fn would_hold(clips: &Clips, name: &Name, slots: u32) -> bool
     clips.would_hold(name, slots)
 }
 
-/// Puts a fragment, which the clips have room for, under the name, as `.copy` and `.cut` do.
+/// What the commands `.copy` and `.cut` do with a fragment: it comes under the name, for which the clips have
+/// room.
 fn keep(clips: &mut Clips, name: Name, fragment: Fragment)
     requires sound { IsFragment (plain_fragment fragment) }
     requires fits { is_full name (slots_of (plain_fragment fragment)) (kept_pairs clips.old.pairs) ≡ false }

@@ -38,7 +38,7 @@ impl<W: Work> Session<W> {
         }
     }
 
-    /// Accepts a key that edited the program, with the cursor at the stop.
+    /// Accepts the key of a command that edited the program at the cursor, which then stands at this stop.
     pub(crate) fn accept_edit(&mut self, stop: Stop) -> Answer
         requires agrees { Agrees self.old.program }
         requires stop { IsStop (plain_session self.old).tree.items (plain_stop stop) }

@@ -144,7 +144,8 @@ impl<W: Work> Session<W> {
         self.enter_read(alloc, read, work)
     }
 
-    /// Enters at the cursor what was read of phrase text.
+    /// What Enter does with a typed line that was read as phrase text: the phrase is entered at the cursor, or
+    /// the key is refused for the fault.
     fn enter_read(
         &mut self,
         alloc: Global,
@@ -172,7 +173,7 @@ impl<W: Work> Session<W> {
     }
 }
 
-/// The phrase that the typed text is in the category.
+/// The phrase that the typed line, entered as phrase text, is in the category.
 fn read_phrase(alloc: Global, category: Category, text: &[u8]) -> Result<Phrase, PhraseFault>
     requires { length text.now < 2 ^ 32 }
     ensures read { (standing : Standing) × HasStanding category text.now standing × IsReadOf standing result }
@@ -187,8 +188,7 @@ const UNBUILT_WORDS: [&[u8]; 7] = [
     b"run", b"step", b"resume", b"back", b"trace", b"input", b"code",
 ];
 
-/// Whether a typed line that begins with a point is that of a command which isn't built yet, so that Enter
-/// refuses it.
+/// Whether Enter refuses the typed line, which begins with a point, since it is a command that isn't built yet.
 #[tactic(auto, unfolding(crate::specs::EnteredLine::is_unbuilt))]
 fn is_unbuilt(line: &[u8]) -> bool
     requires { IsTrue (begins_with_point line.now) }

@@ -69,8 +69,8 @@ impl<W: Work> Session<W> {
         }
     }
 
-    /// Takes a program that was loaded in place of the one that is edited, with the cursor at main. All memory is
-    /// taken before anything is changed.
+    /// What `.load` does with the program that was loaded: takes it in place of the one that is edited, with
+    /// the cursor at main. All memory is taken before anything is changed.
     fn take_program(
         &mut self,
         alloc: Global,

@@ -69,7 +69,8 @@ impl Changed {
     }
 }
 
-/// What taking something out of the program leaves: where the cursor stands, and what was taken out.
+/// What an edit of the program with all that depends on it leaves where it takes something out: where the
+/// cursor stands, and what was taken out.
 #[derive(Drop)]
 pub struct Taken {
     pub stop: Stop,

@@ -105,7 +105,8 @@ impl<W: Work> Session<W> {
         Session::around(alloc, size, program, stop, input)
     }
 
-    /// A session around the program, with the cursor at the stop, and with this input.
+    /// A session in which this program is edited, with the cursor at the stop, and with this input of the
+    /// program.
     fn around(
         alloc: Global,
         size: ScreenSize,
@@ -178,7 +179,7 @@ impl<W: Work> Session<W> {
         Answer::Refused(why)
     }
 
-    /// Accepts a key of the session: no message is shown, and the window follows the cursor.
+    /// The session accepts a key: it shows no message, and its window follows the cursor.
     pub(crate) fn accept(&mut self) -> Answer
         requires agrees { Agrees self.old.program }
         requires placed { IsPlaced (plain_session self.old) }
@@ -227,7 +228,7 @@ fn screens_and_clips(alloc: Global, size: ScreenSize) -> Result<(Screens, Clips)
     Ok((screens, clips))
 }
 
-/// The new program with which a session is opened.
+/// The program that is edited in a session from its beginning: a new one.
 fn new_tree(alloc: Global) -> Result<Tree, OutOfMemory>
     ensures tree { IfOk result IsTree }
     ensures new { IfOk result (λ tree. roomless_tree tree ≡ new_tree) }

@@ -171,7 +171,8 @@ fn is_as_before(tree: &Tree, before: &Seen) -> bool
     same && now.whole && before.whole && now.slots == before.slots
 }
 
-/// Makes the edit of a row at the path, and says why it is refused, if it is, as for want of memory.
+/// Makes the edit of a tree that a row names, at the path, and says why it is refused, if it is, as for want of
+/// memory.
 fn fault_of(alloc: Global, tree: &mut Tree, edit: Edit, at: &Path) -> Option<TreeFault>
     requires { IsTree tree.old }
     ensures { IsTree tree.new }
@@ -198,7 +199,7 @@ fn fault_of(alloc: Global, tree: &mut Tree, edit: Edit, at: &Path) -> Option<Tre
     }
 }
 
-/// The fault alone with which an edit of a tree was refused, as for want of memory.
+/// In a test of edits that are refused for want of memory, the fault alone with which one was refused.
 fn fault_alone(refused: Option<(TreeFault, Phrase)>) -> Option<TreeFault> {
     match refused {
         Some((fault, _)) => Some(fault),
@@ -220,8 +221,8 @@ fn phrase(alloc: Global, category: Category, text: &[u8]) -> Option<Phrase>
     Some(phrase)
 }
 
-/// Makes the edit of a tree that sets a part of the node at the path, and says why it is refused, if it is, as
-/// for want of memory.
+/// Sets a part of the node at the path, as a test of want of memory does, and says why that edit of the tree is
+/// refused, if it is.
 fn set(tree: &mut Tree, at: &Path, part: u8, place: PhrasePlace) -> Option<TreeFault>
     requires tree { IsTree tree.old }
     requires place { IsPhrasePlace (plain_phrase_place place) }

@@ -20,7 +20,7 @@ key_of byte =
     else (if byte == 9 then Tab
     else Other))))
 
--- the key of ESC, [ and this byte
+-- the key that the bytes ESC, [ and this one stand for
 abbrev pub move_of : ℕ → Key
 move_of byte =
     if byte == 65 then Up

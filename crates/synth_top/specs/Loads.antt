@@ -23,7 +23,7 @@ pub data InputReply : Type 0 where
   Loaded : (bytes : List ℕ) → InputReply
   Refused : FileRefusal → InputReply
 
--- what the files did in both loads
+-- what the files did in both loads before the first screen, that of the program and that of its input
 pub record PlainFirstLoads : Type 0 where
   pub program : Reply
   pub input : InputReply

@@ -12,7 +12,7 @@ status_number NoMemory = 3
 status_number BadWords = 4
 status_number KeyLimit = 5
 
--- how the source is left, by the status with which the editor ends: as it is after reads that were Ok, or after such
+-- what the status with which the editor ends says of the source: it is left as after reads that were Ok, or after such
 -- reads and one that wasn't
 abbrev pub LeftAs : Status → Type 0 → Type 0 → Type 0
 LeftAs Done after_reads after_fault = after_reads

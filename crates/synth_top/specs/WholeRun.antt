@@ -84,7 +84,7 @@ ReadsInTurn options now bytes reads pressed =
     (reads ≡ length bytes)
     ⊎ (EndRead options now bytes reads × IsFront (completed bytes) (keys_pressed pressed))
 
--- what a run from this state of its opening screen has done between two moments
+-- what a whole run from this state of its opening screen has done between two moments
 pub record Course (options : PlainOptions) (first : EditorState) (before now : ToldStreams) : Type 0 where
   -- the bytes of keys, each taken once and in order, and at most one that a failed read lost
   pub bytes : List ℕ
@@ -95,8 +95,8 @@ pub record Course (options : PlainOptions) (first : EditorState) (before now : T
   -- how many reads were made
   pub reads : ℕ
   pub made : now.reads ≡ raised_by reads before.reads
-  -- the keys pressed, each with what was replied in it; what isn't complete is pressed only where
-  -- no byte comes any more
+  -- the keys that a whole run pressed, each with what was replied in it; what isn't complete is pressed only where no
+  -- byte comes any more
   pub pressed : List PressedKey
   pub can_reply : HaveReplies first pressed
   pub in_order : IsFront (keys_pressed pressed) (keys bytes)
@@ -120,7 +120,7 @@ module _ {options : PlainOptions} {first : EditorState} {before now : ToldStream
   abbrev pub AllWritten : Type 0
   AllWritten = length (written first course.pressed) ≤ course.count
 
-  -- a run lost no byte of its source
+  -- a whole run lost no byte of the keys that its source had
   abbrev pub NoneLost : Type 0
   NoneLost = course.lost ≡ []
 
@@ -222,7 +222,7 @@ module _ {options : PlainOptions} {first : EditorState} {before now : ToldStream
   wanted_bill wants_before wants_now (inl last) = bill state_after (record { key = last.wanted; reply = last.reply })
   wanted_bill wants_before wants_now (inr step) = 0
 
-  -- the bill of a key after those that a whole run pressed, by why the run stopped: of one that wanted memory, and else
+  -- by why a whole run stopped, the bill of the key after those that it pressed: of one that wanted memory, and else
   -- there is none
   abbrev pub last_bill : (wants_before wants_now : ℕ) (status : Status) → Stopped wants_before wants_now status → ℕ
   last_bill wants_before wants_now NoMemory (inl cut) = 0
@@ -272,7 +272,7 @@ pub record Ran (status : Status) (options : PlainOptions) (before now : Told) (a
   pub wants_later : before.files.wants ≤ wants
   pub stopped : Stopped course before.files.wants wants status
   pub source : LeavesSource course after_reads after_fault
-  -- what was saved at the end
+  -- what a whole run saved at its end
   pub rescue : Rescue
   pub rescued : IsRescue status rescue
   pub wants_now : CountsRescueWant rescue wants now.files.wants

@@ -85,7 +85,7 @@ impl<W: Work> Editor<W> {
         Ok(editor)
     }
 
-    /// Shows on the message row, before the keys of the run come in, why a first load was refused, if one was.
+    /// Before the run of the editor begins, puts on its message row why a first load was refused, if one was.
     fn tell(&mut self, refusal: Option<FileRefusal>)
         requires { IsReady self.old }
         ensures session { plain_session self.new.session ≡ refusal_told refusal (plain_session self.old.session) }
@@ -218,7 +218,7 @@ impl<W: Work> Editor<W> {
         self.press_if(alloc, key, screen, files, work)
     }
 
-    /// Presses the keys of one byte in their order.
+    /// Presses in the run the keys that one byte completes, in their order.
     fn press_keys<K: Sink, F: Files>(
         &mut self,
         alloc: Global,

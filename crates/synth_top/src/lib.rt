@@ -30,10 +30,11 @@ pub use synth_session::Key;
 use task::{Task, task_of};
 pub use words::words_of;
 
-/// Edits a program: reads the words that follow the program's name, loads the files that they name, and then
-/// writes the opening screen and one screen after each key to the screen's sink, until a key ends the session
-/// or the source of keys ends. Key bytes are taken one a read, and no read is made after the source's end,
-/// the limit or a quit. Where a key wants memory, it does nothing, and the editor ends.
+/// The editor as a whole: reads the words that follow the program's name, loads the files that they name, and
+/// then writes the opening screen of the program that is edited and one screen after each key to the screen's
+/// sink, until a key ends the session or the source of keys ends. Key bytes are taken one a read, and no read
+/// is made after the source's end, the limit or a quit. Where a key wants memory, it does nothing, and the
+/// editor ends.
 ///
 /// The words are `--rows N`, `--cols N`, `--keys N`, `--input FILE` and `PROGRAM`, each once at most and in any
 /// order; a value stands in the next word, or in the same behind `=`, and behind `--` no word is an option.
@@ -96,7 +97,8 @@ pub fn synth<S: Source, K: Sink, F: Files, W: Work>(
     }
 }
 
-/// The editor as the options ask for: loads files, runs the session to its end, and saves where memory ran out.
+/// The editor as a whole, as the options ask for it: it loads files, runs the session to its end, and saves
+/// where memory ran out.
 fn edit<S: Source, K: Sink, F: Files, W: Work>(
     alloc: Global,
     options: &Options<'_>,

@@ -6,7 +6,7 @@ ghost use Rattle.template_tree.specs.Private.Restored.{side_of};
 use crate::path::{Path, copy_path};
 use crate::side::Side;
 
-/// The path beside a path: where a node stands that came on this side of the item there.
+/// The path beside an item of a list: where a node stands that came on this side of the item at the path.
 pub fn added_path(side: Side, path: &Path) -> Path
     requires small { last_child_number path.now.items < 4294967295 }
     ensures { result.items ≡ added_path side path.now.items }

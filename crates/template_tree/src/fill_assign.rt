@@ -70,7 +70,8 @@ fn is_assignment_phrase(phrase: &Phrase) -> bool
 }
 
 impl Node {
-    /// The assignment as a node, or the phrase back where there is no memory for it.
+    /// The node of the assignment that a hole or an assignment becomes, or the phrase back where there is no
+    /// memory for it.
     fn assignment(alloc: Global, phrase: Phrase) -> Result<Node, Phrase>
         ensures assignment { IfOk result (λ node. roomless_node node ≡ assignment_node (plain_phrase phrase)) }
         ensures refused { IfErr result (λ back. back ≡ phrase) }

@@ -108,7 +108,7 @@ impl Tree {
 }
 
 impl Tree {
-    /// Whether the node at the path may be dropped: it is a hole in a list of two or more.
+    /// Whether the node at the path may be dropped from its list: it is a hole in a list of two or more.
     fn is_spare_hole(&self, path: &Path) -> bool
         requires tree { IsTree self.now }
         ensures { IsTrue result
@@ -141,8 +141,7 @@ impl Tree {
         self.items.add_at(*k as usize, rest, side, node)
     }
 
-    /// Takes the hole that is dropped out of the list at the path, if one is there; the tree's counts
-    /// stay.
+    /// Drops the hole at the path from its list, if one is there, and gives it; the tree's counts stay.
     fn drop_item(&mut self, path: &Path) -> Option<Node>
         ensures taken { result ≡ node_at self.old.items path.now.items }
         ensures others { roomless_tree self.new ≡ with_edit (λ _. []) path.now.items (roomless_tree self.old) }

@@ -71,8 +71,8 @@ impl Model for Nodes {
 }
 
 impl Node {
-    /// A node with no parts, and no list of nodes inside it: a hole, or main before its lists are there. It
-    /// takes no memory.
+    /// A single node, with no parts and with no list of nodes inside: a hole, or main before its lists are
+    /// there. It takes no memory.
     pub(crate) fn bare(alloc: Global, slot: Slot, kind: NodeKind) -> Node
         ensures { with_spare 0 result ≡ record { label = bare_label slot.0 kind; inner = forest [] } }
     {
@@ -108,7 +108,7 @@ impl Node {
         self.parts.get(part as usize)
     }
 
-    /// What the node keeps of itself: whether it is a comment whose refinement is hidden.
+    /// Whether the node is a comment whose refinement is hidden; a node has this beside its parts.
     pub fn is_elided(&self) -> bool
         ensures { result ≡ self.now.label.elided }
     {

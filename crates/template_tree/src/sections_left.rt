@@ -38,7 +38,8 @@ impl SectionsLeft {
         SectionsLeft::of(others).at(sort)
     }
 
-    /// The line that the section of the next item has before it, if it has one that isn't written yet.
+    /// The line that stands before the section of a node's row in which the next item stands, if it has one
+    /// that isn't written yet.
     pub fn lead(self) -> Option<&'static [u8]>
         ensures { option_map (λ bytes. bytes.now) result ≡ next_lead (plain_sections_left self) }
     {

@@ -78,7 +78,7 @@ fn tell_clip(clips: &Clips, name: &Name, told: &mut Told) {
     told.put(b'\n');
 }
 
-/// Puts the phrase under the name among the clips.
+/// Puts the phrase of a case of clips under the name, and tells what comes of it.
 fn put_phrase(clips: &mut Clips, name: Name, phrase: Phrase, told: &mut Told)
     requires { IsPhrasePlace (Some (plain_phrase phrase)) }
 {

@@ -32,7 +32,7 @@ pub(crate) enum Edit<'a> {
     DropHole,
 }
 
-/// The words that name edits of trees.
+/// The words by which cases of trees name the edits that they make.
 #[derive(Clone, Copy)]
 pub(crate) enum EditWord {
     Fill,
@@ -63,13 +63,13 @@ pub(crate) fn step_of(words: &[Vec<u8>]) -> Option<Step<'_>> {
     step_with(meaning(&EDITS, word.as_slice())?, rest)
 }
 
-/// The edit of the word, with the words behind it.
+/// The edit of a tree that the word names and the words behind it fill, as a case or a walk makes it.
 pub(crate) fn step_with(word: EditWord, words: &[Vec<u8>]) -> Option<Step<'_>> {
     let (at, rest) = words.split_first()?;
     Some((edit_of(word, rest)?, At::of(at.as_slice())?))
 }
 
-/// The edit of the word, with the words behind the path.
+/// The edit of a tree that the word names, with the words behind the path.
 fn edit_of(word: EditWord, rest: &[Vec<u8>]) -> Option<Edit<'_>> {
     match (word, rest) {
         (EditWord::Fill, [template]) => Some(Edit::Fill(meaning(&TEMPLATES, template)?)),
@@ -89,7 +89,8 @@ fn edit_of(word: EditWord, rest: &[Vec<u8>]) -> Option<Edit<'_>> {
     }
 }
 
-/// The part of which an edit is, as its word says: a number up to 255, or `-` for the node itself.
+/// The part at which an edit of a tree is made, as the word of a case says it: a number up to 255, or `-` for
+/// the node itself.
 fn part_of(word: &[u8]) -> Option<Option<u8>> {
     if word == b"-".as_slice() {
         return Some(None);

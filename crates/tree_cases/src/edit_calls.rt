@@ -83,7 +83,7 @@ fn is_made(alloc: Global, tree: &mut Tree, step: Step<'_>, told: &mut Told) -> O
     Some(answer.is_ok())
 }
 
-/// Makes the edit of a case that drops the hole at the path, and says what was changed.
+/// In a case of edits, makes the one that drops the hole at the path, and says what was changed.
 fn dropped(tree: &mut Tree, at: &Path) -> Result<Change, TreeFault>
     requires { IsTree tree.old }
     ensures { IsTree tree.new }
@@ -94,7 +94,7 @@ fn dropped(tree: &mut Tree, at: &Path) -> Result<Change, TreeFault>
     }
 }
 
-/// Makes the edit of a case at the path, one that drops no hole, and says what was changed.
+/// In a case of edits, makes one at the path that drops no hole, and says what was changed.
 fn changed(
     alloc: Global,
     tree: &mut Tree,
@@ -256,8 +256,8 @@ fn walk_at_random(
     Some(())
 }
 
-/// Tells whether more edits of a random walk than the least number were made, and whether each step back led to the
-/// tree before it.
+/// In a case of many edits that are undone, tells whether more of a random walk than the least number were
+/// made, and whether each step back led to the tree before it.
 fn tell_made(walked: &Walked, least: u32, told: &mut Told) {
     told.text(if walked.made > least {
         "more than "

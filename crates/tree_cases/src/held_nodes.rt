@@ -16,7 +16,7 @@ use plcs_base::{ByteOut, Name};
 use std::alloc::Global;
 use template_tree::{Change, Node, Path, Tree, TreeFault};
 
-/// A call on nodes that are held.
+/// A call on nodes that are held beside the tree: taken out, copied, looked at, or put in again.
 #[derive(Clone, Copy)]
 pub(crate) enum HeldCall {
     /// `take_as AT NAME`: takes the node out and holds it.
@@ -126,7 +126,7 @@ fn copied(alloc: Global, tree: &Tree, at: &Path) -> Result<Fragment, TreeFault>
     }
 }
 
-/// Holds a copy of what is held under a name under another one.
+/// Copies the node that is held beside the tree under a name, and holds the copy under another one.
 fn copy(alloc: Global, held: &mut Clips, name: &[u8], other: &[u8], told: &mut Told) -> Option<()> {
     let other = Name::read(other)?;
     let copy = copy_of(alloc, held, name)?;

@@ -65,7 +65,7 @@ fn copied(alloc: Global, tree: &Tree) -> Option<Tree>
     tree_of(alloc, listing.as_bytes()).ok()
 }
 
-/// Puts this into a part of the node at the path, which is lent for it, and tells what comes of it.
+/// For a case of lent nodes, puts this into a part of the one at the path, and tells what comes of it.
 fn put_part(tree: &mut Tree, at: &Path, part: u8, place: PhrasePlace, told: &mut Told)
     requires tree { IsTree tree.old }
     requires place { IsPhrasePlace (plain_phrase_place place) }

@@ -59,7 +59,8 @@ fn tell_path_of(tree: &Tree, slot: u32, told: &mut Told)
     told.put(b'\n');
 }
 
-/// All that a tree shows that is read: its listing, each node in its slot with its path, and how many slots are live.
+/// Tells all that a case reads of a tree: its listing, each node in its slot with its path, and how many slots
+/// are live.
 pub(crate) fn tell_tree(tree: &Tree, told: &mut Told)
     requires { IsTree tree.now }
 {
@@ -81,8 +82,8 @@ fn tell_nodes(tree: &Tree, told: &mut Told)
     }
 }
 
-/// Goes on, as a tree is read, to the next node in listing order: the first one inside, or the next one behind. Says
-/// whether there is one.
+/// In a case that reads a tree, goes on to the next node in listing order: the first one inside, or the next
+/// one behind. Says whether there is one.
 fn goes_on(tree: &Tree, at: &mut Path) -> bool
     requires { IsTree tree.now }
 {

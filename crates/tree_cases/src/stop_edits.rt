@@ -212,7 +212,7 @@ fn tell_wanted(tree: &Tree, at: &Stop, told: &mut Told)
     told.put(b'\n');
 }
 
-/// Tells the stop at which the slot is shown.
+/// Tells, for edits there, the stop of the cursor at which the slot is shown.
 fn tell_shown(tree: &Tree, slot: &[u8], told: &mut Told) -> Option<()>
     requires { IsTree tree.now }
 {
@@ -282,7 +282,7 @@ static STOP_EDITS: [(&[u8], StopEdit); 7] = [
     (b"insert", StopEdit::Insert),
 ];
 
-/// The edit at a stop that the words say.
+/// The edit at the stop of the cursor that the words of a case say.
 fn edit_of(alloc: Global, tree: &Tree, words: &[Vec<u8>]) -> Option<Edit>
     requires { IsTree tree.now }
     ensures { IfSome result BringsWhatMayStand }

@@ -19,7 +19,7 @@ pub(crate) struct Trees {
 }
 
 impl Trees {
-    /// The tree that cases begin with, a new one, with no nodes held and none kept to compare it with.
+    /// What cases that make a tree begin with: a new one, with no nodes held and none kept to compare it with.
     pub(crate) fn new(alloc: Global) -> Option<Trees>
         ensures { IfSome result (λ trees. IsTree trees.tree) }
     {

@@ -64,7 +64,7 @@ pub(crate) fn phrase(alloc: Global, category: Category, text: &[u8]) -> Option<P
     }
 }
 
-/// The phrase of the category that a text among the words of a case reads as.
+/// The phrase of the category for which a word of a case stands, as the text of one.
 fn parsed(alloc: Global, category: Category, text: &[u8]) -> Option<Phrase>
     requires { length text.now ≤ 1000 }
     ensures well_formed { IfSome result (λ phrase. IsWellFormed category (plain_phrase phrase)) }
@@ -73,7 +73,7 @@ fn parsed(alloc: Global, category: Category, text: &[u8]) -> Option<Phrase>
     parse(alloc, category, text).ok()
 }
 
-/// Where a case is played: at the path of a word, or at the node in a slot.
+/// What a word of a case stands for that says where the case is played: a path, or the node in a slot.
 #[derive(Clone, Copy)]
 pub(crate) enum At<'a> {
     Path(&'a [u8]),

@@ -64,8 +64,8 @@ AgreementKeepsLoops =
     (earlier later : PlainTree) (slot : ℕ) (was now : NodeKind) (one other : Around) → AgreesWith earlier later
     → StandsInside earlier.items slot was one → StandsInside later.items slot now other → loops_around one ≡ loops_around other
 
--- a run that comes to a slot of trees that agree, where a statement stood, begins in the loops and the procedure that the
--- slot had
+-- the place where a run begins that comes to a slot of trees that agree, where a statement stood, is in the loops and
+-- the procedure that the slot had
 abbrev pub AgreementKeepsStarts : Type 0
 AgreementKeepsStarts =
     (earlier later : PlainTree) (slot : ℕ) (was now : NodeKind) (one other : Around) → IsTree later → AgreesWith earlier later

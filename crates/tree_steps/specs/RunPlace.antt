@@ -58,7 +58,7 @@ pub record SitesAlike (one other : Forest) : Type 0 where
   pub afters : (slot : ℕ) → After one slot ≡ After other slot
   pub exist : (marked : ℕ → Bool) (place : PlainPlace) → Exists marked one place ↔ Exists marked other place
 
--- two programs have the same sites, and the same places of a run, each by what is marked in it
+-- a run has the same places in two programs, each by what is marked in it, and the slots have the same sites
 pub record PlacesAlike (one other : Forest) : Type 0 where
   pub sites : SitesAlike one other
   pub marked : (slot : ℕ) → is_first_marked one slot ≡ is_first_marked other slot

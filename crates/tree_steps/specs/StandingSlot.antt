@@ -43,7 +43,8 @@ loop_by_template Template.Comment slot = []
 loop_by_template Template.Proc slot = []
 loop_by_template Template.ProcP slot = []
 
--- where a node of the kind encloses a slot: its own slot as a list of loops, if it is a loop that a run keeps
+-- of a node that encloses a standing slot, by its kind: its own slot as a list of loops, if it is a loop that a run
+-- keeps
 abbrev pub loop_by_kind : NodeKind → (slot : ℕ) → List ℕ
 loop_by_kind (NodeKind.Filled template) slot = loop_by_template template slot
 loop_by_kind NodeKind.DeclarationHole slot = []

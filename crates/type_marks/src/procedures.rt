@@ -32,8 +32,8 @@ pub(crate) fn procedure_in(tree: &Tree, slot: Slot) -> Option<&Node>
     None
 }
 
-/// Whether a procedure before the one in the slot has an effective heading of the name, or would have
-/// it where no earlier one does.
+/// Whether one of the program's procedures before the one in the slot, found by name, has an effective heading
+/// of the name, or would have it where no earlier one does.
 pub(crate) fn is_named_before(tree: &Tree, slot: Slot, name: &Name) -> bool
     requires tree { IsTree tree.now }
     ensures { result ≡ is_some (Sig (procedures_before tree.now.items slot.0) name.now) }

@@ -9,8 +9,8 @@ use Rattle.template_tree.specs.Listings.Section.{left_for, left_after, next_lead
 use Rattle.template_tree.specs.Listings.Line.{Line, Lines, part_text}
 use Rattle.unparse_layout.specs.declared.line.LineKind.{LineKind}
 
--- a stretch of a line of the screen: some bytes, in which part of the node they stand, if in one, and whether they are
--- those of a phrase
+-- a stretch of a line of the screen that belongs to a node: some bytes, in which part of the node they stand, if in
+-- one, and whether they are those of a phrase
 pub record Stretch : Type 0 where
   pub part : Option ℕ
   pub filled : Bool
@@ -53,7 +53,7 @@ abbrev pub table_line : ℕ → LineKind → ℕ → Option (List ℕ) → List 
 table_line slot kind level None = []
 table_line slot kind level (Some bytes) = partless_line slot kind level bytes ∷ []
 
--- the first line of a node as a line of the screen, which belongs to that node
+-- the line of the screen that belongs to a node as its first one
 abbrev pub first_line : ℕ → Label → OwnedLine
 first_line level label =
     record { slot = label.slot; kind = LineKind.First; level = level; stretches = stretches_of 0 (row_of label.kind).line label.parts }

@@ -19,8 +19,8 @@ abbrev pub shape : NodeKind → NodeKind
 shape (NodeKind.Filled Template.If) = NodeKind.Filled Template.IfElse
 shape kind = kind
 
--- what a line says to the reader: it is the first line of a node of the shape with these parts, the line before a
--- section, or the last line of a node
+-- what a line says to the machine that the reader of lines is: it is the first line of a node of the shape with these
+-- parts, the line before a section, or the last line of a node
 pub data Saying : Type 0 where
   head : NodeKind → List (Option PlainPhrase) → Saying
   lead : List ℕ → Saying

@@ -1,4 +1,4 @@
--- What one line does to the reader, and what the reader has taken.
+-- Which line leads the reader on from where it has come, within the limits, and which one it refuses.
 use Rattle.std.specs.Prelude.{◌≡◌, ℕ, Bool, Option, ◌+◌, ◌<◌, ◌≤◌, true, if◌then◌else◌, List, Some, None}
 use Rattle.phrase_parser.specs.declared.not_read.NotRead.{NotRead}
 use Rattle.template_tree.specs.Programs.Limit.{deepest_path, most_slots}
@@ -52,7 +52,8 @@ abbrev pub refused_in : (number : ℕ) → NotRead → FileRefusal
 refused_in number NotRead.OutOfMemory = FileRefusal.OutOfMemory
 refused_in number NotRead.Refused = FileRefusal.NotAListing number
 
--- what is past a limit where a node may begin in the line that the reader takes, at a level behind so many others
+-- why the reader refuses a line where a node may begin in it, at a level behind so many others: what is past a limit,
+-- if something is
 abbrev pub IsPast : Bool → ℕ → ℕ → Option FileRefusal → Type 0
 IsPast opens level opened None = (opens ≡ true → level < deepest_path) × (opens ≡ true → opened < most_slots)
 IsPast opens level opened (Some FileRefusal.TooDeep) = (opens ≡ true) × (deepest_path ≤ level)

@@ -123,7 +123,7 @@ pub(crate) fn is_text(text: &[u8], own: Option<&[u8]>) -> bool
     }
 }
 
-/// Whether all of the sections that a list has left may be absent.
+/// Whether a list may end that has come so far: all of the sections that it has left may be absent.
 fn are_optional(sections: &[Section]) -> bool
     ensures { result ≡ optional (map plain_section sections.now) }
 {

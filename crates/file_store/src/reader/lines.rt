@@ -82,7 +82,8 @@ fn read_head(alloc: Global, kinds: &[NodeKind], text: &[u8]) -> Result<Saying, N
     }
 }
 
-/// Reads a whole line as the first one of a node of the kind, if it is such a line: its parts.
+/// Reads a whole line of a listing as the first line of a node of the kind, if it is one: what stands in its
+/// parts.
 fn read_parts(alloc: Global, kind: NodeKind, text: &[u8]) -> Result<Vec<PhrasePlace>, NotRead>
     ensures { Finds (λ parts. IsSegmentsText (row_of kind).line text.now (map plain_phrase_place parts.items))
         (AreNoSegments (row_of kind).line text.now) result }

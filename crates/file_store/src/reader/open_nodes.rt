@@ -16,8 +16,8 @@ use std::alloc::Global;
 use template_tree::{Node, Nodes, PhrasePlace};
 
 impl OpenList {
-    /// What a line that opens a node does to the open lists: it makes this one, without items, which has come
-    /// so far.
+    /// What a line does to the open lists where it opens a node: there is one more, without items, which has
+    /// come so far.
     fn new(alloc: Global, filling: Filling) -> OpenList
         ensures { open_list_of result ≡ record { items = forest []; filling = filling_of filling } }
     {
@@ -167,7 +167,7 @@ fn with_node(list: OpenList, node: Node) -> Result<OpenList, NotRead>
     })
 }
 
-/// The open list as a line leaves it that brings it so far.
+/// What a line does to an open list that it brings so far, if it does nothing else to it.
 fn with_filling(list: OpenList, filling: Filling) -> OpenList
     ensures { open_list_of result ≡ record (open_list_of list) { filling = filling_of filling } }
 {

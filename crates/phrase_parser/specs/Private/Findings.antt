@@ -37,7 +37,7 @@ pub record Seen : Type 0 where
 abbrev pub seen_of : Piece → Seen
 seen_of piece = record { class = class_of piece.token; start = piece.start }
 
--- whether what is found at a token of the class is a number that is too large
+-- whether the check of tokens finds a number that is too large at one of this class
 abbrev pub is_large : TokenClass → Bool
 is_large (TokenClass.Number n) = nat_lt greatest_number n
 is_large (TokenClass.Name is_builtin) = false

@@ -34,7 +34,7 @@ front_of_word length x =
 abbrev pub word_front : List ℕ → Option Front
 word_front x = front_of_word (prefix_len is_name_byte x) x
 
--- the number that the first so many digits at the front of a text write, as it is kept
+-- the token at the front of a text that is a number of so many digits, with the number as it is kept
 abbrev pub number_kept : ℕ → List ℕ → Front
 number_kept length x = record { kind = kind.Number (min (numeral_value (take length x)) greatest_kept); length = length }
 
@@ -42,7 +42,7 @@ number_kept length x = record { kind = kind.Number (min (numeral_value (take len
 abbrev pub number_front : List ℕ → Front
 number_front x = number_kept (prefix_len is_digit x) x
 
--- the bit that a digit of a bit constant at the front of a text stands for
+-- the bit for which the digit stands in the token that a text begins with, where that is a bit constant
 abbrev pub bit_value : ℕ → Option Bool
 bit_value digit = if digit == 48 then Some false else if digit == 49 then Some true else None
 
@@ -113,7 +113,7 @@ front_of (first ∷ rest) =
     else if is_digit first then Some (number_front (first ∷ rest))
     else sign_front first rest
 
--- the token that a text begins with, and its places, where the text stands at this place
+-- the token that a text begins with, as the function gives it, with its places, where the text stands at this place
 abbrev pub placed_at : ℕ → Option Front → Option Placed
 placed_at start None = None
 placed_at start (Some front) = Some (record { kind = front.kind; start = start; end = start + front.length })

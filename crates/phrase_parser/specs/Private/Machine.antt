@@ -71,7 +71,7 @@ pub data ParseState : Type 0 where
 abbrev pub Operand : Type 0
 Operand = ParseStack × PlainExpr
 
--- a list of expressions that the machine read, with one more at the end
+-- in the machine that reads a phrase, a list of expressions with one more at the end
 abbrev pub expr_push : PlainExprs → PlainExpr → PlainExprs
 expr_push PlainExprs.nil t = PlainExprs.cons t PlainExprs.nil
 expr_push (PlainExprs.cons a rest) t = PlainExprs.cons a (expr_push rest t)
@@ -100,7 +100,8 @@ infix_of Sign.Times = Some between.Times
 infix_of Sign.Divide = Some between.Divide
 infix_of sign = None
 
--- an operand, joined with each operator of the level or a higher one that is open on the machine's stack
+-- the machine's stack and operand once that is joined with each operator of the level or a higher one that is open on
+-- the stack
 abbrev pub reduced : ParseStack → ℕ → PlainExpr → Operand
 reduced (base b) level t = (base b, t)
 reduced (prefix op s) level t = reduced s level (PlainExpr.unary op t)

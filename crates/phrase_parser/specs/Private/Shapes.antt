@@ -61,7 +61,8 @@ LastWithin limit (Last.Named is_builtin level) = level ≤ limit
 abbrev pub NestingWithin : ℕ → Ground → List Bracket → Type 0
 NestingWithin limit at brackets = (model.ground_level at ≤ limit) × AllByRecursion (λ bracket. bracket.level ≤ limit) brackets
 
--- the levels of all that is open in a shape of the check, as the model of its findings has it, are not over the limit
+-- what the check keeps is within the limit: no level of all that is open in its shape, as the model of its findings has
+-- it, is over that
 abbrev pub Within : ℕ → model.Shape → Type 0
 Within limit (model.Shape.wanted at brackets level) = (level ≤ limit) × NestingWithin limit at brackets
 Within limit (model.Shape.had last at brackets) = LastWithin limit last × NestingWithin limit at brackets

@@ -35,8 +35,8 @@ pub enum Base {
     CallArguments(Name, Vec<Expr>),
 }
 
-/// The state on the base of an expression that stands in no other: an operand is wanted, and nothing but the
-/// base is open.
+/// The base of an expression that stands in no other, before that expression: the state in which an operand is
+/// wanted, and nothing but the base is open.
 pub fn wanted_on(alloc: Global, base: Base) -> ParseState
     ensures { state_of result ≡ MachineState.wanted (OpenStack.base (base_of base)) }
 {

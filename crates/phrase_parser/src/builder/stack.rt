@@ -156,7 +156,7 @@ pub fn after_infix(stack: ParseStack, left: Expr, op: InfixOp) -> Result<ParseSt
     Ok(ParseState::Wanted(with_frame(stack, ParseFrame::Left(left, op))?))
 }
 
-/// The stack with one frame more.
+/// The builder's stack with one frame more.
 #[tactic(auto, using(crate::proofs::Frames::FrameStacks::stack_on_push))]
 pub fn with_frame(stack: ParseStack, frame: ParseFrame) -> Result<ParseStack, AllocError>
     ensures { IfOk result (λ s. stack_of s ≡ pushed frame (stack_of stack)) }

@@ -1,4 +1,4 @@
--- How instructions, codes and their maps are told apart.
+-- How instructions, blocks of them, codes of programs and their maps are told apart.
 use Rattle.std.specs.Prelude.{◌≡◌, ℕ, List, Option, Some, None, refl}
 use Rattle.std.specs.Coded.{Coded, code_by, coded×, coded_ℕ, coded_list, coded_option}
 use Rattle.std.specs.FinMap.{code}

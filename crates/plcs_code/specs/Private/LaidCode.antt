@@ -80,7 +80,8 @@ with_nodes marks items between nodes laid =
       spans = laid.spans ++ node_spans marks items (length laid.instrs) (length between) nodes;
     }
 
--- the jumps of a node that is laid, by the lengths that were counted ahead of the codes of the nodes inside it
+-- in code that is laid node by node, the jumps of a node, by the lengths that were counted ahead of the codes of the
+-- nodes inside it
 abbrev pub jumps_by : MarkMap → ItemMap → Label → NodeLength → CodeJumps
 jumps_by marks items label lengths =
     own_jumps marks label (length (pieces marks items label).before) lengths.first lengths.others

@@ -17,11 +17,12 @@ leftmost (PlainExpr.binary op a b) (suc times) = leftmost a times
 leftmost (PlainExpr.builtin function arguments) times = PlainExpr.builtin function arguments
 leftmost (PlainExpr.parenthesized a) times = PlainExpr.parenthesized a
 
--- the text of an operator of a chain with a blank on each side, and of its right operand
+-- along a chain, the text that each of its operators adds: its sign with a blank on each side, and its right operand
 abbrev pub operator_text : InfixOp → PlainExpr → List ℕ
 operator_text op b = behind_sign (infix_sign op) (canon b)
 
--- the canonical text of the last so many operators, each with its right operand: what stands behind `leftmost`
+-- along a chain, the canonical text of the last so many operators, each with its right operand: what stands behind
+-- `leftmost`
 abbrev pub chain_text : PlainExpr → ℕ → List ℕ
 chain_text (PlainExpr.number z) operators = []
 chain_text (PlainExpr.text value) operators = []

@@ -5,7 +5,8 @@ use Rattle.std.specs.declared.cmp.Ordering.{Ordering}
 use Rattle.plcs_base.specs.declared.value.Value.{Value}
 use Rattle.plcs_grammar.specs.declared.operator.InfixOp.{InfixOp}
 
--- what the operator makes of how two values are ordered, if it is a comparison
+-- what a comparison, told by its operator, makes of how two values are ordered; none where the operator is no
+-- comparison
 abbrev pub comparison : InfixOp → Ordering → Option Value
 comparison InfixOp.Or order = None
 comparison InfixOp.And order = None

@@ -1,4 +1,4 @@
--- What single instructions lead to, and parts of what they lead to.
+-- What single instructions lead to, beside the rows of their table, and parts of what they lead to.
 use Rattle.std.specs.Prelude.{ℕ, ℤ, ◌+ℤ◌, if◌then◌else◌, List, Some, None}
 use Rattle.std.specs.FinMap.{get}
 use Rattle.plcs_base.specs.declared.value.Value.{Value}
@@ -16,77 +16,77 @@ use Rattle.plcs_machine.specs.Lead.{Lead, acting_at, add_lead, body_address, ent
 
 -- ---- operands and arguments
 
--- the newest operand is added as an argument
+-- a single instruction: the newest operand is added as an argument
 abbrev pub dummy_lead : (next : ℕ) → List Argument → List Value → Outcome Lead
 dummy_lead next arguments values = on_newest (λ value others. add_lead next others arguments (Argument.Dummy value)) values
 
--- what was computed is pushed
+-- part of what single instructions lead to: what was computed is pushed
 abbrev pub computed_lead : (next : ℕ) → List Value → List Argument → Outcome Value → Outcome Lead
 computed_lead next values arguments computed = then_gives computed (push_lead next values arguments)
 
--- what a prefix operator makes of the newest operand is pushed
+-- the single instruction of a prefix operator: what that makes of the newest operand is pushed
 abbrev pub prefix_lead : (next : ℕ) → List Argument → PrefixOp → List Value → Outcome Lead
 prefix_lead next arguments op values = on_newest (λ a others. then_gives (prefix_value op a) (push_lead next others arguments)) values
 
--- what an infix operator makes of the two newest operands is pushed
+-- the single instruction of an infix operator: what that makes of the two newest operands is pushed
 abbrev pub infix_lead : (next : ℕ) → List Argument → InfixOp → List Value → Outcome Lead
 infix_lead next arguments op values =
     on_newest (λ b others. on_newest (λ a more. then_gives (infix_value op a b) (push_lead next more arguments)) others) values
 
 -- ---- variables
 
--- the value of a cell of an array is pushed, whose subscript is the newest operand
+-- a single instruction: the value of a cell of an array is pushed, whose subscript is the newest operand
 abbrev pub load_at_lead : List Frame → (next : ℕ) → List Argument → (name : List ℕ) → List Value → Outcome Lead
 load_at_lead frames next arguments name values =
     on_newest_number (λ z others. load_lead frames next arguments name (Some z) others) values
 
--- the newest operand is stored into a variable
+-- a single instruction: the newest operand is stored into a variable
 abbrev pub store_newest_lead : List Frame → (next : ℕ) → (name : List ℕ) → List Value → Outcome Lead
 store_newest_lead frames next name values = on_newest (λ value others. store_lead frames next name None value) values
 
--- the newest operand is stored into a cell of an array, whose subscript is the operand before it
+-- a single instruction: the newest operand is stored into a cell of an array, whose subscript is the operand before it
 abbrev pub store_at_lead : List Frame → (next : ℕ) → (name : List ℕ) → List Value → Outcome Lead
 store_at_lead frames next name values =
     on_newest (λ value others. on_newest_number (λ z more. store_lead frames next name (Some z) value) others) values
 
--- a cell of an array is added as an argument, whose subscript is the newest operand
+-- a single instruction: a cell of an array is added as an argument, whose subscript is the newest operand
 abbrev pub reference_at_lead : List Frame → (next : ℕ) → List Argument → (name : List ℕ) → List Value → Outcome Lead
 reference_at_lead frames next arguments name values =
     on_newest_number (λ z others. reference_lead frames next arguments name (Some z) others) values
 
--- an item of the input is read into the cell at a location
+-- part of what the single instructions of GET lead to: an item of the input is read into the cell at a location
 abbrev pub read_lead : List Frame → (rest : List ℕ) → (next : ℕ) → Location → Outcome Lead
 read_lead frames rest next location = then_acts next (item_act frames rest location)
 
--- an item of the input is read into a cell of an array, whose subscript is the newest operand
+-- a single instruction: an item of the input is read into a cell of an array, whose subscript is the newest operand
 abbrev pub get_at_lead : List Frame → (rest : List ℕ) → (next : ℕ) → (name : List ℕ) → List Value → Outcome Lead
 get_at_lead frames rest next name values = on_newest_number (λ z others. get_lead frames rest next name (Some z)) values
 
 -- ---- jumps and loops
 
--- a jump that a truth value asks for
+-- a single instruction: a jump that a truth value asks for
 abbrev pub jump_false_lead : (next : ℕ) → List Argument → ℤ → List Value → Outcome Lead
 jump_false_lead next arguments d values =
     on_newest (λ value others. on_bit (λ b.
     if b then Outcome.gives (Lead.goes_on next others arguments) else jumped next others arguments d) value) values
 
--- a loop is entered whose variable stands at a location, or is over at once
+-- part of what a single instruction leads to: a loop is entered whose variable stands at a location, or is over at once
 abbrev pub entry_lead : List Frame → (next : ℕ) → KeptLoop → Location → (first : ℤ) → ℤ → Outcome Lead
 entry_lead frames next kept location first d =
     then_gives (entry_going frames kept location first (body_address frames next) (jump_target next d)) acting_at
 
--- a loop goes on whose variable becomes this sum, or is left
+-- part of what a single instruction leads to: a loop goes on whose variable becomes this sum, or is left
 abbrev pub sum_lead : List Frame → (next number : ℕ) → KeptLoop → Location → (sum : ℤ) → ℤ → Outcome Lead
 sum_lead frames next number kept location sum d =
     then_gives (loop_going frames number kept location sum (jump_target next d) (Some next)) acting_at
 
--- the step of a loop is added to its variable, which has this value
+-- part of what a single instruction leads to: the step of a loop is added to its variable, which has this value
 abbrev pub iterate_lead : List Frame → (next number : ℕ) → KeptLoop → Location → (value : ℤ) → ℤ → Outcome Lead
 iterate_lead frames next number kept location z d =
     then_gives (fixed_value (z +ℤ kept.step)) (on_number (λ sum. sum_lead frames next number kept location sum d))
 
 -- ---- calls
 
--- the procedure of the name is called, however many arguments there are
+-- a single instruction: the procedure of the name is called, however many arguments there are
 abbrev pub named_call_lead : PlainCode → List Frame → (name : List ℕ) → List Argument → Outcome Lead
 named_call_lead code frames name arguments = then_gives (if_there (get code.headings name)) (enters_lead frames arguments)

@@ -13,12 +13,13 @@ use Rattle.plcs_machine.specs.Passing.{Landing, Making, settle}
 abbrev pub making_of : Variables → List Argument → Making
 making_of variables arguments = record { variables = variables; arguments = arguments }
 
--- the cell of a parameter of the type for an argument, if that is a variable or a value of its kind
+-- in a frame that is made for a call, the cell of a parameter of the type for an argument, if that is a variable or a
+-- value of its kind
 abbrev pub argument_cell : ItemType → Argument → Option Cell
 argument_cell ty (Argument.Reference location) = Some (Cell.Ref location)
 argument_cell ty (Argument.Dummy value) = option_map Cell.Held (kept_value ty value)
 
--- variables with a parameter behind them for an argument
+-- the variables of a frame that the code makes for a call, with one more behind them: a parameter, for an argument
 abbrev pub with_argument : (name : List ℕ) → ItemType → Argument → Variables → Option Variables
 with_argument name ty argument variables =
     option_map (λ cell. variables ++ ((name, scalar_variable ty cell) ∷ [])) (argument_cell ty argument)
@@ -29,6 +30,6 @@ abbrev pub made_way : PlainCode → (fetches address : ℕ) → Variables → Li
 made_way code fetches address variables arguments frames =
     settle frames code.instrs fetches address (Some (making_of variables arguments))
 
--- it is so of the way for all frames for which there is one
+-- of the way to the first place of a frame that is made, this holds for all frames below it for which there is a way
 abbrev pub EachWay : (List Frame → Option (Fetched Landing)) → (Option (Fetched Landing) → Type 0) → Type 0
 EachWay ways P = (frames : List Frame) → IsSome (ways frames) → P (ways frames)

@@ -12,11 +12,11 @@ use Rattle.plcs_machine.specs.declared.led.Led.{Led}
 use Rattle.plcs_machine.specs.declared.step_act.StepAct.{StepAct}
 use Rattle.plcs_machine.specs.Lead.{Lead, jump_target, put_lead}
 
--- whether a number is small enough for an address
+-- whether a number is small enough for an address, which the code tells of an instruction
 abbrev pub is_address : ℕ → Bool
 is_address n = nat_lt n (2 ^ 32)
 
--- whether an instruction leads to where an address is
+-- whether the code can tell what an instruction leads to: it is where an address is
 abbrev pub leads_to_address : Lead → Bool
 leads_to_address (Lead.goes_on address values arguments) = is_address address
 leads_to_address (Lead.acts act address) = is_address address
@@ -24,7 +24,7 @@ leads_to_address (Lead.enters slot address arguments) = true
 leads_to_address (Lead.arrives place) = true
 leads_to_address Lead.ends = true
 
--- whether what an instruction comes to is defined, and leads to where an address is
+-- whether the code can tell what an instruction comes to: it is defined, and leads to where an address is
 abbrev pub is_fine : Outcome Lead → Bool
 is_fine (Outcome.gives leads) = leads_to_address leads
 is_fine (Outcome.stops reason) = true
@@ -34,13 +34,13 @@ is_fine Outcome.undefined = false
 abbrev pub has_target : (next : ℕ) → ℤ → Bool
 has_target next d = option_map_or is_address (jump_target next d) false
 
--- whether what a part of a step comes to is defined
+-- whether the code can tell what a part of an instruction comes to: it is defined
 abbrev pub is_defined : {A : Type 0} → Outcome A → Bool
 is_defined (Outcome.gives a) = true
 is_defined (Outcome.stops reason) = true
 is_defined Outcome.undefined = false
 
--- the act as plain data
+-- as plain data, the act that the code tells of an instruction
 abbrev pub plain_act : StepAct → Act
 plain_act (StepAct.Store location value) = Act.store location value
 plain_act (StepAct.Enter location value kept) = Act.enter location value kept

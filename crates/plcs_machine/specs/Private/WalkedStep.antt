@@ -25,7 +25,7 @@ use Rattle.plcs_machine.specs.Private.CountedSteps.{behind_many}
 use Rattle.plcs_machine.specs.Private.DoableLead.{IsDoable}
 use Rattle.plcs_machine.specs.Private.PlainLed.{TakesAtMost, plain_doing, plain_led}
 
--- where no instruction comes next
+-- behind an instruction that doesn't go on to another, no instruction comes next
 abbrev pub nowhere : (address : ℕ) → List Value → List Argument → Option FetchedAnswer
 nowhere address values arguments = None
 
@@ -33,11 +33,11 @@ nowhere address values arguments = None
 abbrev pub ending_answer : PlainCode → PlainConfiguration → (left : ℕ) → Outcome Lead → Option FetchedAnswer
 ending_answer code c left outcome = outcome_answer c nowhere (settle c.frames code.instrs left) outcome
 
--- the answer of a step that begins behind an address, where this is left of the input
+-- the answer of a step whose instructions are run from behind an address on, where this is left of the input
 abbrev pub run_on : PlainCode → (rest : List ℕ) → PlainConfiguration → (address : ℕ) → Option FetchedAnswer
 run_on code rest c address = run_from code rest c (length code.instrs) (address + 1) [] []
 
--- the answer of a step that begins behind a place, where this is left of the input
+-- the answer of a step whose instructions are run from behind a place on, where this is left of the input
 abbrev pub run_at : PlainCode → (rest : List ℕ) → PlainConfiguration → Place → Option FetchedAnswer
 run_at code rest c place = option_and_then (run_on code rest c) (get code.addresses place)
 
@@ -79,12 +79,12 @@ abbrev pub led_answer : PlainCode → RunState → (left : ℕ) → Led → Opti
 led_answer code state left led =
     ending_answer code (plain_configuration state) left (plain_led led state.operands.values state.operands.arguments)
 
--- behind one that calls the procedure in a slot, which is entered at the address
+-- the answer of a walked step behind an instruction that calls the procedure in a slot, which is entered at the address
 abbrev pub called_answer : PlainCode → RunState → (left address slot : ℕ) → Option FetchedAnswer
 called_answer code state left address slot =
     ending_answer code (plain_configuration state) left (Outcome.gives (Lead.enters slot address state.operands.arguments))
 
--- how many fetches are wanted beside that of the instruction
+-- of a step whose instructions are run, how many fetches are wanted beside that of the instruction at hand
 abbrev pub more_fetches : Option FetchedAnswer → ℕ
 more_fetches wanted = fetches_of wanted - 1
 
@@ -105,19 +105,20 @@ abbrev pub IsDone : (wanted : Option FetchedAnswer) → StepAnswer → (before n
 IsDone wanted answer before now noted notes =
     IsStepDone wanted answer (plain_configuration before) (plain_configuration now) noted notes
 
--- neither a state nor the record changes, but for operands
+-- a step whose instructions are run changes neither a state nor the record, but for operands
 abbrev pub IsStateKept : (before now : RunState) → (noted notes : Undo) → Type 0
 IsStateKept before now noted notes = NothingChanges (plain_configuration before) (plain_configuration now) noted notes
 
--- what was written in a state, with so many newest operands behind it, on a new line or not
+-- of a step whose instructions are run: what was written in its state, with so many newest operands behind it, on a new
+-- line or not
 abbrev pub output_then : RunState → (skip : Bool) → (count : ℕ) → List ℕ
 output_then state skip count = output_with skip state.output (reverse (take count state.operands.values))
 
--- what is written behind what was written before, if it fits
+-- of a step whose instructions are run: its configuration with this output, if what was written fits
 abbrev pub with_output_if : Bool → (output : List ℕ) → PlainConfiguration → PlainConfiguration
 with_output_if true output c = record c { output = output }
 with_output_if false output c = c
 
--- the configuration stands at the place where an act goes on
+-- the configuration of a step whose instructions are run, standing at the place where its act goes on
 abbrev pub standing_at : PlainPlace → PlainConfiguration → PlainConfiguration
 standing_at place c = record c { frames = newest_at place c.frames }

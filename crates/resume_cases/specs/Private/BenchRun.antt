@@ -29,7 +29,7 @@ pub record IsTreesCode (tree : PlainTree) (code : PlainCode) : Type 0 where
   pub items_tell : ScopeTells items tree.items
   pub generated : code ≡ Gen marks items tree.items
 
--- the room for operands is empty, as it is between steps
+-- a run stands between two steps, where its program may be edited: the room for operands is empty
 pub record IsBetweenSteps (state : RunState) : Type 0 where
   pub values : state.operands.values ≡ []
   pub arguments : state.operands.arguments ≡ []
@@ -48,7 +48,7 @@ pub record FittedEarlier (tree : PlainTree) (kept : Kept) (c : PlainConfiguratio
   pub fitted : Fits earlier.items c
   pub kept_of : IsKeptOf earlier.items c kept
 
--- something is kept for a run, which fitted an earlier tree
+-- something is kept for a bench's run that stands, which fitted the program before it was edited
 pub record HasKept (tree : PlainTree) (run : Run) : Type 0 where
   pub kept : Kept
   pub is : run.kept ≡ Some kept
@@ -75,8 +75,8 @@ pub record IsBench (bench : Bench) : Type 0 where
   pub tree : IsTree bench.tree
   pub run : IfSome bench.suspended (SuspendedIn bench.tree)
 
--- what came of a step that was tried: one that was made led to what fits the tree, from which its record gives the whole
--- configuration before it back, and any other changed nothing
+-- what came of a step of a bench's run that was tried: one that was made led to what fits the tree, from which its
+-- record gives the whole configuration before it back, and any other changed nothing
 abbrev pub IsTried : PlainTree → StepAnswer → (old new : PlainConfiguration) → Undo → Type 0
 IsTried tree StepAnswer.Stepped old new undo = Fits tree.items new × (step_undone undo new ≡ old)
 IsTried tree (StepAnswer.Stopped reason) old new undo = new ≡ old

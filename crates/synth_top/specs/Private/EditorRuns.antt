@@ -22,7 +22,8 @@ pub record EditorRuns (status : Status) (options : PlainOptions) (first : Editor
   pub wants : before.files.wants ≤ now.files.wants
   pub counts : CountsFor (run_bill course before.files.wants now.files.wants status stopped) (all_shots course) before.counts now.counts
 
--- the program of a session was then saved so, once a run from the editor's first screen on had ended with this status
+-- what is saved once a run from an editor's first screen on has ended with this status: the program of the session,
+-- where it is saved at all
 pub record Rescues (status : Status) (session : PlainSession) (before now : PlainFiles) : Type 0 where
   pub rescue : Rescue
   pub rescued : IsRescue status rescue

@@ -37,7 +37,8 @@ pub record BothLoad (options : PlainOptions) (loads : PlainFirstLoads) (before n
   pub can : CanLoad options before.stored loads
   pub read : OnlyRead (load_failures loads) before now
 
--- memory ran out in a load: the map is as before, and the counts haven't fallen
+-- memory ran out in the loading of a file, before a session is opened: the map is as before, and the counts haven't
+-- fallen
 pub record LoadsNothing (before now : PlainFiles) : Type 0 where
   pub stored : now.stored ≡ before.stored
   pub faults : before.faults ≤ now.faults
@@ -45,12 +46,12 @@ pub record LoadsNothing (before now : PlainFiles) : Type 0 where
 
 -- ---- what was loaded
 
--- the content of a file that was loaded, if it was
+-- what loading a file gave, before a session is opened: the content, if it was loaded
 abbrev pub load_content : {T : Type 0} → FileLoad T → Option T
 load_content (FileLoad.Loaded content) = Some content
 load_content load = None
 
--- why loading a file was refused, before a session is opened, if it was
+-- what loading a file answered, before a session is opened: why it was refused, if it was
 abbrev pub load_refusal : {T : Type 0} → FileLoad T → Option FileRefusal
 load_refusal (FileLoad.Refused refusal) = Some refusal
 load_refusal load = None

@@ -38,8 +38,8 @@ pub record IsUnshown {W : Type 0} (e : Editor W) : Type 0 where
   pub painted : shown_grid e.session ≡ blank_grid (plain_session e.session).size.rows (plain_session e.session).size.cols
   pub reader : e.reader ≡ []
 
--- an editor with the session of these options and loads, at a moment of a run before any key is pressed, and before its
--- first screen
+-- an editor at the moment of a run from which keys are pressed, and before its first screen, with the session of these
+-- options and loads
 pub record IsOpened {W : Type 0} (options : PlainOptions) (loads : PlainFirstLoads) (e : Editor W) : Type 0 where
   pub unshown : IsUnshown e
   pub session : plain_session e.session ≡ first_session options loads
@@ -61,8 +61,8 @@ pub record IsPressed (key : Key) (answer : Answer) (before now : PlainSession) (
 
 -- ---- some keys
 
--- what is seen of a run at a moment: its session, the screen that is shown, the bytes that the sink
--- took and its count of wants, the files, and what was counted
+-- what is seen of a run at a moment before or after some keys are pressed: its session, the screen that is shown, the
+-- bytes that the sink took and its count of wants, the files, and what was counted
 pub record Moment : Type 0 where
   pub session : PlainSession
   pub shown : PlainGrid
@@ -118,7 +118,7 @@ pub record UpToLast (before now : Moment) (earlier : List PressedKey) (last : Pr
   pub wants : now.files.wants ≡ before.files.wants
   pub counts : CountsFor (bills (state_at before) (earlier ++ last ∷ [])) (shots (state_at before) (earlier ++ last ∷ [])) before.counts now.counts
 
--- all of these keys were pressed
+-- between two moments of a run all of these keys were pressed
 pub record KeysShown (keys : List Key) (before now : Moment) : Type 0 where
   pub pressed : List PressedKey
   pub all : keys_pressed pressed ≡ keys
@@ -144,8 +144,8 @@ pub record KeysCut (keys : List Key) (before now : Moment) : Type 0 where
   pub up_to : UpToLast before now earlier last count
   pub going : ends (state_at before) (earlier ++ last ∷ []) ≡ false
 
--- these keys were pressed up to one that wanted memory, and so did nothing: from these counts on it checked phrases alone, under the
--- bill that it has with this reply, which what it asks can have
+-- between two moments of a run these keys were pressed up to one that wanted memory, and so did nothing: from these
+-- counts on it checked phrases alone, under the bill that it has with this reply, which what it asks can have
 pub record KeysWanted (keys : List Key) (before now : Moment) : Type 0 where
   pub pressed : List PressedKey
   pub wanted : Key

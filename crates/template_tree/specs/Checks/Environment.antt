@@ -85,7 +85,8 @@ all_declared (Forest.cons label inner rest) = declares label ++ all_declared res
 
 -- ---- which items are effective
 
--- how many cells an item of the size has: one as a scalar, whose size is 0, and as an array its size
+-- how many cells an item has that is declared with this size: one as a scalar, whose size is 0, and as an array its
+-- size
 abbrev pub cells_in : (size : ℕ) → ℕ
 cells_in size = if size == 0 then 1 else size
 
@@ -118,7 +119,7 @@ abbrev pub effective : (before : List Declared) → List Declared → List Decla
 effective before [] = before
 effective before (item ∷ rest) = effective (with_declared before item) rest
 
--- the effective items of a procedure in which these nodes stand, in listing order
+-- what the declarations among the nodes of a procedure say: its effective items, in listing order
 abbrev pub items_inside : Forest → List Declared
 items_inside inner = effective [] (all_declared inner)
 
@@ -195,18 +196,18 @@ heading_of (NodeKind.Filled template) parts = template_heading template parts
 abbrev pub may_be_called : List ℕ → Bool
 may_be_called name = not (is_builtin_name name) && not (bytes_eq name (codes "main"))
 
--- the kind of the values of a declared type
+-- the kind of the values of an item, by the type that its declaration says
 abbrev pub kind_of_type : ItemType → Kind
 kind_of_type ItemType.Fixed = Kind.Fixed
 kind_of_type ItemType.Bit = Kind.Bit
 kind_of_type (ItemType.Text n) = Kind.Text
 
--- the kind that the declaration of an item says, if the item is a scalar
+-- what the declaration of an item says of its kind, if the item is a scalar
 abbrev pub scalar_kind : Declared → Option Kind
 scalar_kind item = if item.size == 0 then Some (kind_of_type item.ty) else None
 
--- the kind of a parameter behind earlier ones, if it has one: it is named here first, and an effective item of the name
--- is a scalar
+-- what a heading and the effective items say of a parameter behind earlier ones: its kind, if it is named here first,
+-- and an effective item of the name is a scalar
 abbrev pub parameter_kind : (items : List Declared) (earlier : List (List ℕ)) → List ℕ → Option Kind
 parameter_kind items earlier name =
     if list_any (bytes_eq name) earlier then None else option_and_then scalar_kind (item_named name items)

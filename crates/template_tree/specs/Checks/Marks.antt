@@ -30,7 +30,8 @@ type_in Forest.nil slot = None
 type_in (Forest.cons label inner rest) slot =
     if label.slot == slot then type_given label.kind label.parts else type_in rest slot
 
--- main and the procedures before the one in the slot, as the verdicts of its phrases ask
+-- for the verdict of each phrase of a program, main and the procedures before the one in the slot in which the phrase
+-- stands
 abbrev pub procedures_before : (program : Forest) → (slot : ℕ) → Forest
 procedures_before Forest.nil slot = Forest.nil
 procedures_before (Forest.cons label inner rest) slot =
@@ -68,14 +69,14 @@ node_verdicts program procedure (Forest.cons label inner rest) =
     part_verdicts (surroundings program procedure label.slot) label.slot 0 label.parts
     ++ (node_verdicts program procedure inner ++ node_verdicts program procedure rest)
 
--- the verdicts of the phrases of main and procedures of the program
+-- the verdict of each phrase of main and of procedures of the program
 abbrev pub procedure_verdicts : (program : Forest) → Forest → VerdictList
 procedure_verdicts program Forest.nil = []
 procedure_verdicts program (Forest.cons label inner rest) =
     node_verdicts program record { label = label; inner = inner } (Forest.cons label inner Forest.nil)
     ++ procedure_verdicts program rest
 
--- a map of the verdict of each phrase, by the place of the phrase
+-- the verdict of each phrase of a program in a map, by the place of the phrase
 abbrev pub VerdictMap : Type 0
 VerdictMap = FinMap phrase_cmp (Option MarkKind)
 
@@ -93,7 +94,7 @@ offence_at entry = option_map (λ kind. (entry.0, kind)) entry.1
 abbrev pub offences : VerdictMap → MarkMap
 offences verdicts = from_entries (filter_map offence_at (entries verdicts))
 
--- the marks of a program
+-- the marks of a program: its phrases with an offence, and the kind of each one's first
 abbrev pub Marks : (program : Forest) → MarkMap
 Marks program = offences (Verdicts program)
 

@@ -66,7 +66,7 @@ mentions name Forest.nil = []
 mentions name (Forest.cons label inner rest) =
     part_mentions name label.slot 0 label.parts ++ (mentions name inner ++ mentions name rest)
 
--- these are the places of the phrases of the program that mention the name, each once, in order of slot and part
+-- which phrases of the program mention the name: those at these places, each once, in order of slot and part
 pub record AreUses (name : List ℕ) (program : Forest) (uses : List PhraseAt) : Type 0 where
   pub increasing : IsStrictlySortedBy phrase_cmp uses
   pub each : (at : PhraseAt) → Contains uses at ↔ Contains (mentions name program) at

@@ -1,4 +1,4 @@
--- The items of parameters.
+-- Which effective item a parameter has.
 use Rattle.std.specs.Prelude.{ℕ, if◌then◌else◌, ◌==◌, bytes_eq, List, Option, Some, None, option_and_then}
 use Rattle.std.specs.List.{list_any}
 use Rattle.plcs_base.specs.declared.declared.Declared.{Declared}

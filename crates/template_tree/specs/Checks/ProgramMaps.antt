@@ -8,7 +8,7 @@ use Rattle.template_tree.specs.Checks.Environment.{Items}
 use Rattle.template_tree.specs.Checks.Marks.{Marks}
 use Rattle.template_tree.specs.Programs.PlainTree.{Forest}
 
--- the items that the map has of the procedure in the slot
+-- the items that a map of items, as a `Scope` has one, tells of the procedure in the slot
 abbrev pub items_in : ItemMap → ℕ → List Declared
 items_in items slot = unwrap_or (get items slot) []
 

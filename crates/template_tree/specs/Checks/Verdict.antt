@@ -59,8 +59,8 @@ array_kind items name = then_found (item_found items name) cell_found
 abbrev pub of_kind : Kind → Kind → Result Kind MarkKind
 of_kind kind found = if same_kind kind found then Ok found else Err MarkKind.TypeMismatch
 
--- whether no offence is found in the kinds left and right of an infix operator, which takes two of this kind, or two of
--- any one kind
+-- whether the verdict of a phrase finds no offence in the kinds left and right of an infix operator, which takes two of
+-- this kind, or two of any one kind
 abbrev pub is_pair : Option Kind → Kind → Kind → Bool
 is_pair None left right = same_kind left right
 is_pair (Some kind) left right = same_kind kind left && same_kind kind right
@@ -71,7 +71,7 @@ abbrev pub infix_found : InfixOp → Kind → Kind → Result Kind MarkKind
 infix_found op left right =
     if is_pair (infix_takes op) left right then Ok (infix_gives op) else Err MarkKind.TypeMismatch
 
--- whether the number of arguments that were found is right where so many are taken, and perhaps one more
+-- whether it is no offence that so many arguments were found, where so many are taken, and perhaps one more
 abbrev pub is_count : ℕ → Option Kind → ℕ → Bool
 is_count taken None count = count == taken
 is_count taken (Some kind) count = (count == taken) || (count == taken + 1)

@@ -38,13 +38,13 @@ edit_slot slot change (Forest.cons label inner rest) =
 abbrev pub with_items : PlainTree → Forest → ℕ → PlainTree
 with_items tree items drawn = record { items = items; spare = tree.spare; drawn = drawn; live = count items }
 
--- nodes as an edit at a slot of a tree puts them there: nothing in them is elided
+-- what an edit of a tree puts at a slot where it is given these nodes: they, with nothing in them elided
 abbrev pub whole : Forest → Forest
 whole Forest.nil = Forest.nil
 whole (Forest.cons label inner rest) = Forest.cons (record label { elided = false }) (whole inner) (whole rest)
 
--- a node as an edit at a slot puts it there: its inner nodes take the next slots in listing order, and nothing in it is
--- elided
+-- what an edit of a tree, at a slot, makes of a node that it puts there: the inner nodes take the next slots in listing
+-- order, and nothing in the node is elided
 abbrev pub node_in_slot : ℕ → ℕ → PlainNode → PlainNode
 node_in_slot slot next node =
     record { label = record node.label { slot = slot; elided = false }; inner = with_slots_from next (whole node.inner) }

@@ -29,7 +29,7 @@ pub record IsEdit (edit : TreeEdit) (slot : ℕ) (before after : PlainTree) (rec
   pub undoes : undone receipt back (roomless_tree after) ≡ roomless_tree before
   pub can_undo : CanUndo receipt back after
 
--- the slot of the node at which an edit is made, if there is one, or else 0
+-- the slot of the node at which an edit may be made, if there is one, or else 0
 abbrev pub slot_in : Option PlainNode → ℕ
 slot_in None = 0
 slot_in (Some node) = node.label.slot

@@ -33,7 +33,7 @@ is_comment NodeKind.Main = false
 is_comment NodeKind.Assign = false
 is_comment (NodeKind.Filled template) = is_comment_template template
 
--- whether a comment is hidden once it is turned; nothing else can be turned
+-- whether the refinement of a comment is hidden once the comment is turned; no other node can be turned
 abbrev pub hidden_after_toggle : PlainNode → Option Bool
 hidden_after_toggle node = if is_comment node.label.kind then Some (not node.label.elided) else None
 

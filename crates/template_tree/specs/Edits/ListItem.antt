@@ -30,7 +30,7 @@ siblings_at items [] = Forest.nil
 siblings_at items (k ∷ []) = items
 siblings_at items (k ∷ (j ∷ path)) = option_map_or (λ node. siblings_at node.inner (j ∷ path)) (slice_get (nodes items) k) Forest.nil
 
--- how many of the nodes among which an item stands, told by their sorts, are of the sort
+-- how many items the list of the sort has, among nodes that are told by their sorts
 abbrev pub how_many : Sort → List Sort → ℕ
 how_many sort [] = 0
 how_many sort (one ∷ others) = (if same_sort sort one then 1 else 0) + how_many sort others

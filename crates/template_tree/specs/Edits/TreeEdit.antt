@@ -35,7 +35,7 @@ changed_slot (TreeEdit.add side) tree slot = tree.drawn
 changed_slot TreeEdit.drop tree slot = slot
 changed_slot (TreeEdit.set_part part place) tree slot = slot
 
--- an edit without the room of the lists that it brings
+-- the edit that a call makes, one of the four, without the room of the lists that it brings
 abbrev pub roomless_tree_edit : TreeEdit → TreeEdit
 roomless_tree_edit (TreeEdit.put node) = TreeEdit.put (roomless_node node)
 roomless_tree_edit (TreeEdit.add side) = TreeEdit.add side

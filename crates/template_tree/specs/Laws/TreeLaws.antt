@@ -21,7 +21,7 @@ SlotEditIsPathEdit =
     → times node.label.slot items ≤ 1 → node_at items path ≡ Some node
     → edit_slot node.label.slot change items ≡ edit_at change path items
 
--- a tree is one again where the node at a path comes back with this in a part that takes it
+-- a tree stays one where the node at a path comes back with this in a part that takes it
 abbrev pub SetPartKeepsTree : Type 0
 SetPartKeepsTree =
     (tree : PlainTree) (path : List ℕ) (node : PlainNode) (part : ℕ) (place : Option PlainPhrase)

@@ -29,7 +29,7 @@ segment_text (PlainSegment.words bytes) parts = bytes
 segment_text (PlainSegment.part category) [] = part_text category None
 segment_text (PlainSegment.part category) (part ∷ parts) = part_text category part
 
--- the parts that are left after a segment of a line
+-- the parts of a node that are left behind a segment of its line
 abbrev pub parts_after : PlainSegment → List (Option PlainPhrase) → List (Option PlainPhrase)
 parts_after (PlainSegment.words bytes) parts = parts
 parts_after (PlainSegment.part category) [] = []
@@ -69,7 +69,7 @@ lines elides level left (Forest.cons label inner rest) =
     ++ (fixed_line level (row_of label.kind).last
     ++ lines elides level (left_after here) rest)))
 
--- the lines of a program as its listing has them: elided refinements too
+-- all lines of a program, which its listing has: elided refinements too
 abbrev pub listing_lines : Forest → List Line
 listing_lines = lines false 0 program_sections
 

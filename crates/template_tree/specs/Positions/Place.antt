@@ -10,7 +10,7 @@ use Rattle.template_tree.specs.Edits.ListItem.{is_list}
 use Rattle.template_tree.specs.Programs.PlainTree.{Label, Forest}
 use Rattle.template_tree.specs.Programs.Program.{sort_of}
 
--- a place of a run: a slot, and a point in it
+-- a place of a run in a program: a slot, and a point in it
 pub record PlainPlace : Type 0 where
   pub slot : ℕ
   pub point : ℕ
@@ -88,7 +88,7 @@ is_statement Sort.Procedure = false
 is_statement Sort.Declaration = false
 is_statement Sort.Statement = true
 
--- whether a run does what stands in these sections one after the other, and not one of it alone
+-- whether a run has its places in what stands in these sections one after the other, and not in one of it alone
 abbrev pub in_turn : List PlainSection → Bool
 in_turn [] = true
 in_turn (section ∷ sections) = is_list section.amount && in_turn sections
@@ -130,7 +130,7 @@ site_start site = if passes_in site.label.kind then begin site.inner site.after 
 abbrev pub Start : Forest → ℕ → Option PlainPlace
 Start items slot = option_map site_start (site items slot)
 
--- where a run goes on once the statement in the slot is done
+-- the place where a run goes on once the statement in the slot is done
 abbrev pub After : Forest → ℕ → Option PlainPlace
 After items slot = option_map (λ site. site.after) (site items slot)
 

@@ -78,7 +78,7 @@ listed_stop stops stop = find (λ listed. same_stop listed.stop stop) stops
 abbrev pub line_at : Forest → PlainStop → ℕ
 line_at items stop = option_map_or (λ listed. listed.line) (listed_stop (Stops items) stop) 0
 
--- the visible node at the path below a node: nothing on the way to it is elided
+-- the visible node at the path below a node, where the cursor may have a stop: nothing on the way to it is elided
 abbrev pub visible_below : PlainNode → List ℕ → Option PlainNode
 visible_below node [] = Some node
 visible_below node (k ∷ path) =

@@ -17,7 +17,7 @@ weight node = suc (suc (forest_weight node.inner))
 abbrev pub nodes_weight : PlainNodes → ℕ
 nodes_weight list = suc (forest_weight (forest list.items))
 
--- no node is larger than the list in which it is an item
+-- no node of a tree is larger than the list of nodes in which it is an item
 pub most_le_weight : (items : List PlainNode) → most (λ node. weight node + 1) items ≤ forest_weight (forest items) + 1
 most_le_weight [] = omega arith
 most_le_weight (node ∷ rest) = omega (arith, most_le_weight rest)

@@ -24,7 +24,7 @@ parts_of (PlainSegment.part category ∷ segments) = category ∷ parts_of segme
 abbrev pub sort_of : NodeKind → Sort
 sort_of kind = (row_of kind).sort
 
--- the sorts of nodes in order, as the sections of a row ask for them
+-- the sorts of nodes in order, for which the row of a node asks where plain data are a program
 abbrev pub sorts : Forest → List Sort
 sorts Forest.nil = []
 sorts (Forest.cons label inner rest) = sort_of label.kind ∷ sorts rest

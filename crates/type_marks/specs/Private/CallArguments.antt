@@ -5,7 +5,7 @@ use Rattle.plcs_base.specs.declared.value.Kind.{Kind}
 use Rattle.template_tree.specs.Checks.KindTable.{same_kind}
 use Rattle.template_tree.specs.Checks.Verdict.{arguments_offence}
 
--- whether the parameter's kind is the one that is found in the argument
+-- whether the parameter of a call has a kind, and the argument beside it was found to be of that kind
 abbrev pub is_taken : Option Kind → Result Kind MarkKind → Bool
 is_taken (Some taken) (Ok kind) = same_kind taken kind
 is_taken (Some taken) (Err offence) = false

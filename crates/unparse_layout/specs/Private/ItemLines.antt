@@ -37,8 +37,8 @@ lines_before items k (next ∷ rest) =
     sum (take k (map height (node_layouts items)))
     + unwrap_or (option_map (λ item. one_if item.bone.led + 1 + lines_before item.inner next rest) (slice_get (node_layouts items) k)) 0
 
--- the line of the screen before the node of this number, if one stands there, where these sections are left for the
--- nodes
+-- the line of the screen that stands before those of one node, that of this number, if there is one, where these
+-- sections are left for the nodes
 abbrev pub lead_at : List PlainSection → Forest → ℕ → Option (List ℕ)
 lead_at left Forest.nil k = None
 lead_at left (Forest.cons label inner rest) zero = next_lead (left_for (sort_of label.kind) left)
