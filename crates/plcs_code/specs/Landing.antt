@@ -1,5 +1,5 @@
--- Where a run comes to that goes on in code: by jumps alone at the end of a statement, and at once where a body begins;
--- and that the step of a place stands at its address alone.
+-- Where a run comes to that goes on in code: by jumps alone at the end of a statement, and at once where a body begins.
+-- Also that the step of a place stands at the address of that alone.
 use Rattle.std.specs.Prelude.{◌≡◌, ℕ, zero, suc, ◌+◌, ◌<◌, ◌≤◌, ℤ, ◌+ℤ◌, pos, true, List, length, Some, slice_get}
 use Rattle.std.specs.FinMap.{get}
 use Rattle.std.specs.List.{list_any}

@@ -1,6 +1,7 @@
--- What each key does, and the laws of refused keys. A key that asks for more than one thing is refused for the first of
--- these that holds: an unbuilt command, an unknown command, a wrong argument, floating point, no clip, the wrong stop,
--- a fault in phrase text, a phrase or line that is full, a limit of trees, full clips, a file, the edge.
+-- What each key does, and the laws of refused keys.
+-- A key that asks for more than one thing is refused for the first of these that holds: an unbuilt command, an unknown
+-- command, a wrong argument, floating point, no clip, the wrong stop, a fault in phrase text, a phrase or line that is
+-- full, a limit of trees, full clips, a file, the edge.
 use Rattle.std.specs.Prelude.{◌≡◌}
 use Rattle.cursor_moves.specs.Move.{stop_down, stop_left, stop_right, stop_up}
 use Rattle.synth_session.specs.declared.key.Key.{Key}
