@@ -59,7 +59,7 @@ BodiesBegin =
     × (slice_get (Gen marks items program).instrs (start + length_before marks items found.label found.inner)
     ≡ Some (PlainInstr.place (begin found.inner behind)))
 
--- so does the second of the two bodies of an IF
+-- in code the second of the two bodies of an IF begins at once with the place at which a run begins that comes to it
 abbrev pub SecondBodiesBegin : Type 0
 SecondBodiesBegin =
     (marks : MarkMap) (items : ItemMap) (program : Forest) (slot : ℕ) (found : Site) (first : Label) (within rest : Forest) (behind : PlainPlace)

@@ -23,8 +23,8 @@ pub record Callee : Type 0 where
   pub parameters : List (List ℕ)
   pub items : List Declared
 
--- the place that follows a call of a procedure, or with which main begins: that of its first statement, or one inside
--- that
+-- the place that follows where a call of the procedure stands, or with which main begins: that of its first statement,
+-- or one inside that
 abbrev pub procedure_start : PlainNode → PlainPlace
 procedure_start node = begin node.inner (place_at node.label.slot 1)
 

@@ -17,8 +17,8 @@ use Rattle.synth_session.specs.PlainSession.{PlainSession}
 use Rattle.synth_session.specs.RefusalText.{refusal_text}
 use Rattle.synth_session.specs.TypedLine.{char_typed, last_erased, phrase_typed}
 
--- a session without a display of code, which every key ends, a refused one too; no command displays code yet, so this
--- is the session itself
+-- what each key makes of a session in which code is displayed: it ends the display, a refused key too; no command
+-- displays code yet, so this is the session itself
 abbrev pub without_code_display : PlainSession → PlainSession
 without_code_display s = s
 

@@ -133,7 +133,7 @@ fn put_part<O: ByteOut>(category: Category, part: &PhrasePlace, out: &mut O)
     }
 }
 
-/// What the listing of a tree's program is, split at each byte 10: its lines.
+/// The listing of a tree, split at each byte 10, is the lines of its program.
 pub fn listing_splits_in_lines()
     ensures { ListingSplitsInLines }
 {

@@ -248,7 +248,7 @@ fn stop_at(tree: &Tree, word: &[u8]) -> Option<Stop>
 /// The most parts that a node has, at which an edit may be made.
 const MOST_PARTS: u32 = 4;
 
-/// The stop that the word of an edit says.
+/// The stop of the cursor at which a case makes an edit, as the word says it.
 fn stop_of(word: &[u8]) -> Option<Stop> {
     let mut halves = word.split(|byte| *byte == b':');
     let path = path(halves.next()?)?;
