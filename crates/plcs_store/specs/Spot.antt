@@ -28,7 +28,7 @@ pub record Callee : Type 0 where
 abbrev pub procedure_start : PlainNode → PlainPlace
 procedure_start node = begin node.inner (place_at node.label.slot 1)
 
--- what a call needs of a procedure with this heading
+-- what the spot of a call has of the procedure that is called, which has this heading
 abbrev pub callee_with : PlainNode → Heading → Callee
 callee_with node heading =
     record {
