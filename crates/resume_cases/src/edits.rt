@@ -106,7 +106,7 @@ fn copy(alloc: Global, tree: &Tree, clips: &mut Clips, at: &Stop) -> Option<Made
     }
 }
 
-/// The name under which the node that was copied last is held.
+/// The name under which the node is held that was copied last for a change of the bench's program.
 fn clip_name() -> Option<Name> {
     Name::read(b"clip")
 }

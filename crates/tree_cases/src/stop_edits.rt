@@ -97,7 +97,7 @@ fn try_at(
     Some(())
 }
 
-/// Takes out what stands at a stop, and inserts it at another one.
+/// In a case of edits at the stop of the cursor, takes out what stands at one, and inserts it at another one.
 fn move_to(alloc: Global, tree: &mut Tree, from: &[u8], to: &[u8], told: &mut Told) -> Option<()>
     requires { IsTree tree.old }
     ensures { IsTree tree.new }
