@@ -1,4 +1,4 @@
--- Edits of a tree, each at a slot.
+-- Edits of a tree, each at a slot: the tree after one, and how the trees before it and after it differ.
 use Rattle.std.specs.Prelude.{◌≡◌, ℕ, zero, suc, ◌+◌, false, if◌then◌else◌, ◌==◌, nat_lt, List, [], ◌∷◌, ◌++◌, find, Option, Some, option_map}
 use Rattle.plcs_grammar.specs.PlainPhrase.{PlainPhrase}
 use Rattle.template_tree.specs.declared.side.Side.{Side}
