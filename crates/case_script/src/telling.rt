@@ -53,7 +53,7 @@ impl Told {
         }
     }
 
-    /// Whether the other tells the same.
+    /// Whether the other tells the same of a case.
     pub fn is_same(&self, other: &Told) -> bool {
         self.whole && other.whole && self.bytes.as_slice() == other.bytes.as_slice()
     }

@@ -1,4 +1,4 @@
-//! Files, and what of them the next calls ask for.
+//! A desk of files: the calls on them, and what of them is open or begun for the next calls.
 
 use crate::call::FilesCall;
 use crate::streams::buffer;

@@ -32,7 +32,7 @@ ListingsAreShort =
     (items : Forest) → IsProgram items → depth items ≤ deepest_path → count items ≤ most_slots
     → length (Listing items) ≤ longest_listing
 
--- the lines of which it is told whether a node begins in them are those of the listing
+-- the law of listings that the lines of which it is told whether a node begins in them are those of the listing
 abbrev pub ListedLinesAreLines : Type 0
 ListedLinesAreLines = (items : Forest) → map (λ row. row.line) (listed_program items) ≡ listing_lines items
 

@@ -25,7 +25,7 @@ abbrev pub BeginsListing : List ListedLine → Type 0
 BeginsListing rows =
     (items : Forest) × (more : List ListedLine) × IsProgram items × (listed_program items ≡ rows ++ more)
 
--- how many nodes begin in these lines of a file, whose bytes go wrong as the listing of a tree where they are too many
+-- how many nodes begin in these lines of a file; where they are too many, its bytes go wrong as the listing of a tree
 abbrev pub opened : List ListedLine → ℕ
 opened [] = 0
 opened (row ∷ rows) = (if row.opens then 1 else 0) + opened rows

@@ -23,8 +23,8 @@ fn main(rt: HostRuntime) -> io::Result<()> {
     play_script(&rt, &mut scene)
 }
 
-/// What a script holds from line to line: the disk or the journal, what is found of crashes, and the answer to the
-/// case at hand.
+/// What a script of cases of the journal of keys holds from line to line: a disk or a journal, what is found of
+/// crashes, and the answer to the case at hand.
 #[derive(Drop)]
 struct Scene {
     held: Held,

@@ -14,7 +14,7 @@ pub(crate) fn source_of(alloc: Global, keys: &[u8]) -> Option<MemSource> {
     Some(MemSource::new(keys, Vec::new(alloc)))
 }
 
-/// An empty disk for a session of a case, of which no call fails.
+/// An empty disk for a session over a journal, of which no call fails.
 pub(crate) fn empty_disk(alloc: Global) -> MemDisk {
     MemDisk::new(alloc, Vec::new(alloc))
 }

@@ -1,4 +1,5 @@
-//! How a new key is taken from the source and kept on the disk, and how the last gate is shut.
+//! How the next key is given: a kept one, or else a new one, which is taken from the source and kept on the
+//! disk first; and how the last gate is shut.
 
 ghost use Rattle.std.specs.Prelude.{◌≡◌, ◌+◌, ◌^◌, ◌≤◌, ◌⊎◌, IfOk, OnOk, OnErr};
 ghost use Rattle.key_journal.specs.Disk.{Newest};

@@ -57,8 +57,8 @@ fn number_front(text: &[u8]) -> Front
     Front { kind, length }
 }
 
-/// The value of the token that a text begins with, where it is a number of these digits, or `GREATEST_KEPT`
-/// where it is greater.
+/// The value that is kept with the token that a text begins with, where that is a number of these digits, or
+/// `GREATEST_KEPT` where it is greater.
 fn kept_value(digits: &[u8]) -> u32
     ensures { result ≡ min (numeral_value digits.now) greatest_kept }
 {

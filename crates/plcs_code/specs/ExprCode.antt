@@ -1,5 +1,5 @@
--- The code of phrases: that of the operands from left to right, and then the operator; parentheses add nothing. Also
--- the expressions and variables of a phrase from which its code is made.
+-- The code of phrases: that of the operands from left to right, and then the operator; parentheses add nothing.
+-- Also the expressions and variables of a phrase from which its code is made.
 use Rattle.std.specs.Prelude.{ℕ, ◌+◌, List, [], ◌∷◌, ◌++◌, Option, Some, None}
 use Rattle.plcs_grammar.specs.PlainPhrase.{PlainExpr, PlainExprs, PlainVarRef, PlainPhrase}
 use Rattle.template_tree.specs.Positions.Place.{place_at}

@@ -1,5 +1,5 @@
--- Where a run comes to that goes on in code: by jumps alone at the end of a statement, and at once where a body begins;
--- and that the step of a place stands at its address alone.
+-- Where a run comes to that goes on in code: by jumps alone at the end of a statement, and at once where a body begins.
+-- Also that the step of a place stands at the address of that alone.
 use Rattle.std.specs.Prelude.{◌≡◌, ℕ, zero, suc, ◌+◌, ◌<◌, ◌≤◌, ℤ, ◌+ℤ◌, pos, true, List, length, Some, slice_get}
 use Rattle.std.specs.FinMap.{get}
 use Rattle.std.specs.List.{list_any}
@@ -59,7 +59,7 @@ BodiesBegin =
     × (slice_get (Gen marks items program).instrs (start + length_before marks items found.label found.inner)
     ≡ Some (PlainInstr.place (begin found.inner behind)))
 
--- so does the second of the two bodies of an IF
+-- in code the second of the two bodies of an IF begins at once with the place at which a run begins that comes to it
 abbrev pub SecondBodiesBegin : Type 0
 SecondBodiesBegin =
     (marks : MarkMap) (items : ItemMap) (program : Forest) (slot : ℕ) (found : Site) (first : Label) (within rest : Forest) (behind : PlainPlace)

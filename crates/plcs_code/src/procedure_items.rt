@@ -24,7 +24,7 @@ pub(crate) fn procedure_items<D: Scope>(
     Ok(items)
 }
 
-/// The effective items of the procedure in the slot, in listing order.
+/// The effective items of the procedure in the slot, as the scope tells them, in listing order.
 fn items_in<D: Scope>(alloc: Global, scope: &D, slot: Slot) -> Result<Vec<Declared>, OutOfMemory>
     ensures { IfOk result (λ items. items.items ≡ items_in (D.items scope.now) slot.0) }
 {

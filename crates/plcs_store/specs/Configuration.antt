@@ -28,7 +28,7 @@ place_of_plain place = record { slot = record { 0 = place.slot }; point = record
 abbrev pub frame_place : Frame → PlainPlace
 frame_place frame = plain_place frame.place
 
--- a frame that stands at the place
+-- a frame of what a run is in, once it stands at the place
 abbrev pub frame_at : PlainPlace → Frame → Frame
 frame_at place frame = record frame { place = place_of_plain place }
 

@@ -56,7 +56,8 @@ TemplateDiffers program frame kept =
 abbrev pub Asks : (question : Type 0) → ResumeRefusal → (more : Option ResumeRefusal → Type 0) → Option ResumeRefusal → Type 0
 Asks question refusal more answer = (question × (answer ≡ Some refusal)) ⊎ ((¬ question) × more answer)
 
--- the answer to whether a run may be resumed, as far as one frame says, before the frames above it are asked for
+-- when a suspended run may be resumed in the program, as far as one of its frames says, before the frames above it are
+-- asked for
 abbrev pub AsksFrame : (program : Forest) → Frame → Parts → List Declared → HeldTemplate → (more : Option ResumeRefusal → Type 0) → Option ResumeRefusal → Type 0
 AsksFrame program frame heading items template more =
     Asks (HeadingDiffers program frame heading) (ResumeRefusal.HeadingChanged frame.procedure)
@@ -77,7 +78,8 @@ AsksFrames program (frame ∷ frames) (heading ∷ headings) (items ∷ declared
 abbrev pub MayResume : Kept → PlainConfiguration → (program : Forest) → Option ResumeRefusal → Type 0
 MayResume kept c program answer = AsksFrames program c.frames kept.headings kept.declared kept.held answer
 
--- a suspended run may be resumed, by what was kept of the program, as long as that isn't edited
+-- one case when a suspended run may be resumed: in the program of which something was kept for it, as long as that
+-- isn't edited
 abbrev pub UneditedResumes : Type 0
 UneditedResumes =
     (program : Forest) (c : PlainConfiguration) (kept : Kept) → IsKeptOf program c kept → MayResume kept c program None

@@ -23,12 +23,12 @@ pub record Callee : Type 0 where
   pub parameters : List (List ℕ)
   pub items : List Declared
 
--- the place that follows a call of a procedure, or with which main begins: that of its first statement, or one inside
--- that
+-- the place that follows where a call of the procedure stands, or with which main begins: that of its first statement,
+-- or one inside that
 abbrev pub procedure_start : PlainNode → PlainPlace
 procedure_start node = begin node.inner (place_at node.label.slot 1)
 
--- what a call needs of a procedure with this heading
+-- what the spot of a call has of the procedure that is called, which has this heading
 abbrev pub callee_with : PlainNode → Heading → Callee
 callee_with node heading =
     record {

@@ -95,6 +95,6 @@ HasPartsFor Act.leave frame c = IsSome (caller_of c.frames)
 abbrev pub Allows : Act → PlainConfiguration → Type 0
 Allows act c = (frame : Frame) × (newest_frame c.frames ≡ Some frame) × HasPartsFor act frame c
 
--- its record takes a step back, wherever the step goes on
+-- what takes a step back is its record, wherever the step goes on
 abbrev pub StepsTakenBack : Type 0
 StepsTakenBack = (act : Act) (next : PlainPlace) (c : PlainConfiguration) → Allows act c → step_undone (undo_of act c) (done act next c) ≡ c

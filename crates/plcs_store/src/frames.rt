@@ -1,4 +1,4 @@
-//! The frames of a run.
+//! The frames of a run, and what is found in them by its place or name: their variables, cells and loops.
 ghost use Rattle.std.specs.Prelude.{◌≡◌, ◌+◌, ◌<◌, ◌≤◌, length, vec_capacity, vec_len, slice_get, ◌++◌, [], ◌∷◌, IfNone, IfOk, IfSome, IsSome, Some, option_map};
 ghost use Rattle.plcs_store.specs.Act.{HasLoopRoom, newest_at, with_loop, with_newest, without_loop, without_loop_at, without_newest};
 ghost use Rattle.plcs_store.specs.CellAt.{HasCell, cell_at, variable_at, with_cell};

@@ -11,7 +11,7 @@ use std::alloc::{AllocError, Global};
 use template_tree::{Path, Tree};
 use unparse_layout::Layout;
 
-/// Reads the lines as a program, which takes the place of the one before.
+/// Reads the lines as the program from which cases derive what they tell, in place of the one before.
 pub fn read_program(alloc: Global, tree: &mut Tree, text: &[Vec<u8>], told: &mut Told) -> Option<()>
     requires { IsTree tree.old }
     ensures { IsTree tree.new }
@@ -46,7 +46,7 @@ fn take_listing(alloc: Global, tree: &mut Tree, listing: &[u8], told: &mut Told)
     }
 }
 
-/// Takes the node in the slot out of the program.
+/// In a case of edits, takes the node in the slot out of the program that was read.
 pub fn take(alloc: Global, tree: &mut Tree, words: &[Vec<u8>], told: &mut Told) -> Option<()>
     requires { IsTree tree.old }
     ensures { IsTree tree.new }

@@ -106,7 +106,7 @@ fn copy(alloc: Global, tree: &Tree, clips: &mut Clips, at: &Stop) -> Option<Made
     }
 }
 
-/// The name under which the node that was copied last is held.
+/// The name under which the node is held that was copied last for a change of the bench's program.
 fn clip_name() -> Option<Name> {
     Name::read(b"clip")
 }
@@ -304,7 +304,8 @@ fn keep_program(alloc: Global, tree: &Tree, suspended: &mut Suspended) -> Option
     }
 }
 
-/// Makes the edit at the stop, and says what it did.
+/// Changes the bench's program by the edit at the stop, once what its run needs is kept, and says what the edit
+/// did.
 fn make_alone(alloc: Global, tree: &mut Tree, at: &Stop, edit: Edit) -> Result<Change, TreeFault>
     requires tree { IsTree tree.old }
     requires stop { IsStop (roomless_tree tree.old).items (plain_stop at.now) }

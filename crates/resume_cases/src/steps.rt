@@ -1,4 +1,4 @@
-//! Steps of a run, made and taken back.
+//! The run of a bench: how it is begun anew, its steps, made and taken back, and why it then stands still.
 ghost use Rattle.std.specs.Prelude.{◌≡◌, ◌≤◌, length, IfNone, IfSome, None};
 ghost use Rattle.template_tree.specs.Programs.Tree.{IsTree};
 ghost use Rattle.plcs_store.specs.Configuration.{plain_configuration};

@@ -48,7 +48,8 @@ pub(crate) fn tell_frames(bench: &Bench, told: &mut Told) -> Option<()> {
     Some(())
 }
 
-/// Tells a frame: the slot of its procedure, its place, and its loops, the outermost first.
+/// Tells a frame of a run that stands still: the slot of its procedure, its place, and its loops, the outermost
+/// first.
 fn tell_frame(frame: &Frame, told: &mut Told) {
     told.value(&frame.procedure.0);
     told.put(b' ');

@@ -7,7 +7,7 @@ ghost use Rattle.template_tree.specs.Programs.Tree.{IsTree};
 use plcs_base::Slot;
 use template_tree::{Node, Tree};
 
-/// Main or the procedure in the slot, or `None` where neither is there.
+/// The node of a tree, found by its slot, that is main or a procedure, or `None` where neither is there.
 pub(crate) fn procedure_in(tree: &Tree, slot: Slot) -> Option<&Node>
     requires tree { IsTree tree.now }
     ensures found { option_map (λ node. node.now) result ≡ procedure_at tree.now.items slot.0 }

@@ -1,4 +1,4 @@
-//! Runs of the code of the program, each of them new, and what is told of them.
+//! New runs of the code of the program: the steps that they take, and what is told of them.
 ghost use Rattle.std.specs.Prelude.{◌≤◌, length, IfSome};
 ghost use Rattle.run_cases.specs.RunOfProgram.{HasSteps, IsProgramCode, StandsByCode};
 

@@ -1,5 +1,5 @@
-//! What a run is in, as it is told: how much of its input was taken, what was written, and its frames with their
-//! loops, variables and cells.
+//! What a run is in, as it is told: how much of its input was taken, what was written, and its frames with
+//! their loops, variables and cells.
 
 use crate::value;
 use case_script::Told;

@@ -30,7 +30,8 @@ typed_position rows cols view = record { row = rows; col = cut_col cols (length 
 
 -- ---- at the stop
 
--- whether the cursor stands on the screen in a stretch of its line: that of the part of the number, if it is at one
+-- whether this is the stretch of its line in which the cursor stands on the screen: that of the part of the number, at
+-- which the cursor is
 abbrev pub is_part : ℕ → Option ℕ → Bool
 is_part part None = false
 is_part part (Some own) = own == part

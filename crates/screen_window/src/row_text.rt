@@ -45,7 +45,8 @@ pub fn show_row(line: &mut Vec<u16>, text: RowText<'_>)
     }
 }
 
-/// What is written in the margin of a row before a line or an instruction: whether the run stands there.
+/// What is written first in one row of a grid, its margin before a line or an instruction: whether the run
+/// stands there.
 fn margin(runs: bool) -> &'static [u8]
     ensures { result.now ≡ margin runs }
 {

@@ -39,8 +39,9 @@ impl Played {
         self.screen.bytes()
     }
 
-    /// Tells the first 256 keys that the run of the editor left in its source in memory, if there are any. The
-    /// read that is to fail may be the one that is made for that here, and then another one is made.
+    /// Reads from the source in memory over which the editor ran, and tells the first 256 keys that are left
+    /// there, if there are any. The read that is to fail may be the one that is made here, and then another one
+    /// is made.
     pub fn tell_left(&mut self, told: &mut Told) {
         let mut buf = [0u8; 256];
         let count = match self.keys.read(&mut buf) {

@@ -23,7 +23,7 @@ pub fn name_in(argument: &[u8]) -> Option<Name>
     }
 }
 
-/// The name of the clip that is meant where no argument names one, as a name.
+/// The name of a clip that no argument of a command is read as: that of the clip which is then meant.
 #[tactic(auto, using(crate::proofs::ClipName::clip_name_read))]
 fn default_clip() -> Option<Name>
     ensures { result ≡ Some default_clip }

@@ -90,7 +90,7 @@ fn procedure_node(tree: &Tree, procedure: Slot) -> Option<&Node>
     None
 }
 
-/// The copied parts of the node.
+/// The parts of the node, copied to be kept for the frames of a run.
 fn copied_parts(alloc: Global, node: &Node) -> Result<CopiedParts, OutOfMemory>
     requires subtree { IsSubtree node.now }
     ensures { IfOk result (λ parts. parts ≡ node.now.label.parts) }

@@ -56,7 +56,7 @@ abbrev pub bytes_given : {run : Status} {options : PlainOptions} {before now : T
 bytes_given (inl unopened) = []
 bytes_given (inr ran) = ran.course.bytes
 
--- a key ended the session of the editor that ran over kept keys
+-- a key ended the session whose keys are kept
 abbrev pub IsQuit : {run : Status} {options : PlainOptions} {before now : Told}
     {after_reads after_fault : Type 0} → Ended run options before now after_reads after_fault → Type 0
 IsQuit (inl unopened) = ⊥
@@ -102,7 +102,7 @@ pub record JournalWholeRun (task : Option PlainTask) (run : Status) (closing : C
   pub took : Consumes before.left now.left (taken ++ last)
   pub few : length last ≤ 1
   pub failed : (last ≡ []) ⊎ ((run ≡ ReadFault) ⊎ (run ≡ NoMemory))
-  -- at each moment a crash leaves the kept keys and then some of those bytes, in their order; at the end
+  -- at each moment of the session a crash leaves the kept keys and then some of those bytes, in their order; at the end
   -- all of them, but for the one that a failed read took
   pub each : Throughout (LeavesBetween (kept_keys before.past) ((kept_keys before.past ++ taken) ++ last))
       before.past now.past

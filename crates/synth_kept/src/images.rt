@@ -1,4 +1,5 @@
-//! The images that a crash of a session may leave of its disk.
+//! The images that a crash of a session may leave of its disk, found after each call that the session made of
+//! it.
 
 use key_journal::{Disk, DiskCall, MemDisk};
 use std::alloc::{AllocError, Global};

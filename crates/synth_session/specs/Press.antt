@@ -1,6 +1,7 @@
--- What each key does, and the laws of refused keys. A key that asks for more than one thing is refused for the first of
--- these that holds: an unbuilt command, an unknown command, a wrong argument, floating point, no clip, the wrong stop,
--- a fault in phrase text, a phrase or line that is full, a limit of trees, full clips, a file, the edge.
+-- What each key does, and the laws of refused keys.
+-- A key that asks for more than one thing is refused for the first of these that holds: an unbuilt command, an unknown
+-- command, a wrong argument, floating point, no clip, the wrong stop, a fault in phrase text, a phrase or line that is
+-- full, a limit of trees, full clips, a file, the edge.
 use Rattle.std.specs.Prelude.{◌≡◌}
 use Rattle.cursor_moves.specs.Move.{stop_down, stop_left, stop_right, stop_up}
 use Rattle.synth_session.specs.declared.key.Key.{Key}
@@ -16,8 +17,8 @@ use Rattle.synth_session.specs.PlainSession.{PlainSession}
 use Rattle.synth_session.specs.RefusalText.{refusal_text}
 use Rattle.synth_session.specs.TypedLine.{char_typed, last_erased, phrase_typed}
 
--- a session without a display of code, which every key ends, a refused one too; no command displays code yet, so this
--- is the session itself
+-- what each key makes of a session in which code is displayed: it ends the display, a refused key too; no command
+-- displays code yet, so this is the session itself
 abbrev pub without_code_display : PlainSession → PlainSession
 without_code_display s = s
 

@@ -99,6 +99,6 @@ abbrev pub first_session : PlainOptions → PlainFirstLoads → PlainSession
 first_session options loads =
     refusal_told (first_refusal loads) (opened_session options.size (loaded_program loads.program) (loaded_input loads.input))
 
--- the state of the first screen, before which the files were loaded; the loads leave the map as it is
+-- the state once the files are loaded, with which the first screen comes; the loads leave the map as it is
 abbrev pub first_state : PlainOptions → Option FileMap → PlainFirstLoads → EditorState
 first_state options stored loads = record { session = first_session options loads; files = stored }

@@ -92,7 +92,7 @@ pub record Course (options : PlainOptions) (first : EditorState) (before now : T
   pub read : Consumes before.left now.left (bytes ++ lost)
   pub one : length lost ≤ 1
   pub within : length bytes ≤ options.key_limit
-  -- how many reads were made
+  -- how many reads of keys the whole run made
   pub reads : ℕ
   pub made : now.reads ≡ raised_by reads before.reads
   -- the keys that a whole run pressed, each with what was replied in it; what isn't complete is pressed only where no

@@ -60,8 +60,8 @@ pub struct Editor<W> {
 }
 
 impl<W: Work> Editor<W> {
-    /// An editor for a session over the program that was loaded, or a new one, with the input that was
-    /// loaded, before its first screen. It tells of the first load that was refused.
+    /// The editor at the beginning of the run, before its first screen: over the program that was loaded, or a
+    /// new one, with the input that was loaded. It tells of the first load that was refused.
     pub fn open(
         alloc: Global,
         options: &Options<'_>,

@@ -55,7 +55,8 @@ impl Tree {
     }
 }
 
-/// Whether nodes of the kind become assignments where one is typed, as holes for statements and assignments do.
+/// Whether nodes of the kind are the holes and assignments that become assignments: holes for statements, and
+/// assignments.
 fn takes_assignments(kind: NodeKind) -> bool
     ensures { IsTrue result ↔ ((kind ≡ NodeKind.StatementHole) ⊎ (kind ≡ NodeKind.Assign)) }
 {

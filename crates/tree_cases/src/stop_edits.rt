@@ -97,7 +97,7 @@ fn try_at(
     Some(())
 }
 
-/// Takes out what stands at a stop, and inserts it at another one.
+/// In a case of edits at the stop of the cursor, takes out what stands at one, and inserts it at another one.
 fn move_to(alloc: Global, tree: &mut Tree, from: &[u8], to: &[u8], told: &mut Told) -> Option<()>
     requires { IsTree tree.old }
     ensures { IsTree tree.new }
@@ -248,7 +248,7 @@ fn stop_at(tree: &Tree, word: &[u8]) -> Option<Stop>
 /// The most parts that a node has, at which an edit may be made.
 const MOST_PARTS: u32 = 4;
 
-/// The stop that the word of an edit says.
+/// The stop of the cursor at which a case makes an edit, as the word says it.
 fn stop_of(word: &[u8]) -> Option<Stop> {
     let mut halves = word.split(|byte| *byte == b':');
     let path = path(halves.next()?)?;

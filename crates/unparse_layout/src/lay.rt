@@ -1,4 +1,5 @@
-//! Lines laid as cells.
+//! How lines are laid as cells: the blanks before them, and then segment by segment, with marked phrases in
+//! negative image.
 ghost use Rattle.std.specs.Prelude.{◌≡◌, ◌*◌, ◌≤◌, ◌<◌, false, flat_map, length, replicate, take, ◌++◌};
 ghost use Rattle.plcs_grammar.specs.Template.{PlainSegment, plain_segment, row_of};
 ghost use Rattle.template_tree.specs.Programs.Limit.{deepest_path};

@@ -81,7 +81,7 @@ impl<W> Line<W> {
     }
 }
 
-/// A byte of a line, laid as a cell of the screen, in negative image or not.
+/// The cell of a line of the screen for a byte, in negative image or not.
 pub fn screen_cell(negative: bool, byte: u8) -> u16
     ensures { result ≡ screen_cell negative byte }
 {

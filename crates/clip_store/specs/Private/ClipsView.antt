@@ -1,4 +1,4 @@
--- What clips in memory are seen as, and what is kept of them.
+-- What clips in memory are seen as, within the limits and with the number of their slots.
 use Rattle.std.specs.Prelude.{◌≡◌, ℕ, List, map}
 use Rattle.indexmap.specs.IndexMap.{spare}
 use Rattle.clip_store.specs.declared.fragment.Fragment.{Fragment}

@@ -98,7 +98,7 @@ unled item = if is_none item.before then Some item.next else None
 abbrev pub advanced : Sort → Filling → Option Filling
 advanced sort filling = option_and_then unled (item_entry sort filling)
 
--- whether the text of a line that the reader takes is that line of the table, if there is one
+-- whether the reader of lines takes a text for that line of the table, if there is one: the two are equal
 abbrev pub is_text : List ℕ → Option (List ℕ) → Bool
 is_text text None = false
 is_text text (Some own) = bytes_eq text own

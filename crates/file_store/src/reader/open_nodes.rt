@@ -167,7 +167,7 @@ fn with_node(list: OpenList, node: Node) -> Result<OpenList, NotRead>
     })
 }
 
-/// What a line does to an open list that it brings so far, if it does nothing else to it.
+/// What a line does to an open list that it only brings so far.
 fn with_filling(list: OpenList, filling: Filling) -> OpenList
     ensures { open_list_of result ≡ record (open_list_of list) { filling = filling_of filling } }
 {

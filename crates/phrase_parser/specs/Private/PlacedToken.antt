@@ -1,4 +1,4 @@
--- What is kept of tokens: their kinds and places.
+-- What is kept of the tokens into which a text is cut: their kinds and places.
 use Rattle.std.specs.Prelude.{◌≡◌, ℕ, min, List, map, Option}
 use Rattle.plcs_grammar.specs.Token.{Token}
 use Rattle.plcs_grammar.specs.Cuts.{Piece, Cuts}

@@ -1,4 +1,4 @@
--- What a token with its place is in its text.
+-- What a token that is kept with its place is by its bytes in the text, and when these are of its kind.
 use Rattle.std.specs.Prelude.{◌≡◌, ℕ, ◌-◌, ◌≤◌, List, length, slice_range}
 use Rattle.plcs_grammar.specs.Limit.{greatest_number}
 use Rattle.plcs_base.specs.Name.{IsName}
@@ -35,8 +35,8 @@ pub record IsConstant (bytes : List ℕ) : Type 0 where
   pub whole : bytes ≡ quoted value
   pub content : IsConstantText value
 
--- what the builder needs of a token of the kind: a name's bytes are a name, a character constant's are one, and a number
--- is one that an expression can hold
+-- what the builder needs of the bytes that a token is in its text, by its kind: a name's are a name, a character
+-- constant's are one, and a number is one that an expression can hold
 abbrev pub IsOfKind : TokenKind → List ℕ → Type 0
 IsOfKind kind.Name bytes = IsName bytes
 IsOfKind kind.Keyword bytes = Unit {0}

@@ -28,7 +28,7 @@ pub struct ParseStack {
     pub frames: Vec<ParseFrame>,
 }
 
-/// A frame of the stack: one thing that stands open around an operand.
+/// A frame of the builder's stack: one thing that stands open around an operand.
 #[derive(Drop)]
 pub enum ParseFrame {
     /// An operator that waits for its operand.

@@ -73,7 +73,7 @@ going_to (Doing.Leads (Led.Arrives place)) = None
 going_to (Doing.Leads Led.Ends) = None
 going_to (Doing.Leads (Led.Stops reason)) = None
 
--- at most so many bytes of the input are taken
+-- of an instruction as the code tells of it: where it reads, at most so many bytes of the input are taken
 abbrev pub TakesAtMost : ℕ → Doing → Type 0
 TakesAtMost n (Doing.Writes skip count) = Unit {0}
 TakesAtMost n (Doing.Reads location value count) = count ≤ n

@@ -58,23 +58,25 @@ pub record IsWalked (code : PlainCode) (rest : List ℕ) (c : PlainConfiguration
 
 -- ---- the answers that are wanted behind an instruction, in a state, where so many fetches are left
 
--- behind one that was walked to
+-- the answer of a walked step behind the instruction that it was walked to
 abbrev pub walked_answer : PlainCode → RunState → Walked → Option FetchedAnswer
 walked_answer code state walked =
     ending_answer code (plain_configuration state) walked.left
     (walked_outcome (plain_configuration state) walked state.operands.values state.operands.arguments)
 
--- behind one that writes so many newest operands, on a new line or not, where this is the next address
+-- the answer of a walked step behind an instruction that writes so many newest operands, on a new line or not, where
+-- this is the next address
 abbrev pub put_answer : PlainCode → RunState → (left next : ℕ) → (skip : Bool) → (count : ℕ) → Option FetchedAnswer
 put_answer code state left next skip count =
     ending_answer code (plain_configuration state) left (put_lead next state.output skip count state.operands.values)
 
--- behind one that reads a value, which took so many bytes, where this is the next address
+-- the answer of a walked step behind an instruction that reads a value, which took so many bytes, where this is the
+-- next address
 abbrev pub read_answer : PlainCode → RunState → (left next : ℕ) → Location → Value → (count : ℕ) → Option FetchedAnswer
 read_answer code state left next location value count =
     ending_answer code (plain_configuration state) left (Outcome.gives (Lead.acts (Act.read location value count) next))
 
--- behind one that leads to anything else
+-- the answer of a walked step behind an instruction that leads to anything else
 abbrev pub led_answer : PlainCode → RunState → (left : ℕ) → Led → Option FetchedAnswer
 led_answer code state left led =
     ending_answer code (plain_configuration state) left (plain_led led state.operands.values state.operands.arguments)
@@ -100,7 +102,8 @@ IsStepDone wanted (StepAnswer.Stopped reason) before now noted notes =
 IsStepDone wanted StepAnswer.Ended before now noted notes =
     NothingChanges before now noted notes × (result_of wanted ≡ Some (step_answered StepAnswer.Ended now))
 
--- the same of states
+-- what the code answers to a walked step is the answer that is wanted, after which the states of the run, but for
+-- operands, and the record are these
 abbrev pub IsDone : (wanted : Option FetchedAnswer) → StepAnswer → (before now : RunState) → (noted notes : Undo) → Type 0
 IsDone wanted answer before now noted notes =
     IsStepDone wanted answer (plain_configuration before) (plain_configuration now) noted notes

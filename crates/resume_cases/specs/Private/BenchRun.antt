@@ -21,7 +21,8 @@ use Rattle.back_steps.specs.EarlierConfigurations.{CanGoBack, configurations_bef
 use Rattle.resume_cases.specs.declared.bench.Bench.{Bench}
 use Rattle.resume_cases.specs.declared.suspended.Suspended.{Suspended}
 
--- the code is that of the tree, by its own marks and effective items
+-- the code is the one by which a run stands in the program of the tree: that of the tree's own marks and effective
+-- items
 pub record IsTreesCode (tree : PlainTree) (code : PlainCode) : Type 0 where
   pub marks : MarkMap
   pub items : ItemMap

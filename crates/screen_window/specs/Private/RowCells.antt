@@ -14,7 +14,7 @@ text_cells cols (Text bytes) = bytes.now
 text_cells cols Dashes = replicate (cols - 1) 45
 text_cells cols (Input prompt typed) = prompt.now ++ typed.now
 
--- the cell of a row in a column, where these cells are shown from another column on
+-- of the cells that show what is written in a row from a column on, the one in this other column
 abbrev pub cell_behind : ℕ → ℕ → List ℕ → ℕ → ℕ
 cell_behind cols from cells col = if nat_lt (col + 1) cols then shown_cell (slice_index_or cells (col - from) blank) else blank
 

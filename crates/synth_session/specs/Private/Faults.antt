@@ -24,7 +24,7 @@ abbrev pub HasBecome : Edited → PlainTree → PlainStop → Type 0
 HasBecome (Edited.became tree stop taken what slot) after to = (tree ≡ after) × (stop ≡ to)
 HasBecome (Edited.refused fault) after to = ⊥
 
--- how many phrases are checked at most where an edit of the program comes to this: each of the program after it
+-- how many phrases are checked at most where this came of an edit of the program: each of the program after it, or none
 abbrev pub edit_checks : Edited → ℕ
 edit_checks (Edited.became tree stop taken what slot) = phrase_count tree
 edit_checks (Edited.refused fault) = 0

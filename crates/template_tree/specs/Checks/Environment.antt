@@ -90,7 +90,7 @@ all_declared (Forest.cons label inner rest) = declares label ++ all_declared res
 abbrev pub cells_in : (size : ℕ) → ℕ
 cells_in size = if size == 0 then 1 else size
 
--- how many cells a declared item has
+-- how many cells an item has that declarations of a program say
 abbrev pub cells_of : Declared → ℕ
 cells_of item = cells_in item.size
 

@@ -1,4 +1,4 @@
--- Edits of a tree, each at a slot.
+-- Edits of a tree, each at a slot: the tree after one, and how the trees before it and after it differ.
 use Rattle.std.specs.Prelude.{◌≡◌, ℕ, zero, suc, ◌+◌, false, if◌then◌else◌, ◌==◌, nat_lt, List, [], ◌∷◌, ◌++◌, find, Option, Some, option_map}
 use Rattle.plcs_grammar.specs.PlainPhrase.{PlainPhrase}
 use Rattle.template_tree.specs.declared.side.Side.{Side}
@@ -90,14 +90,15 @@ DifferBy What.Added slot before after =
 DifferBy What.Dropped slot before after =
     (times slot before ≡ 1) × (roomless after ≡ roomless (edit_slot slot (λ _. []) before))
 
--- the nodes in which the slot of an edit's change stands: those before, where it was dropped, or else those after
+-- the nodes in which the slot stands that an edit of a tree changed: those before the edit, where its item was dropped,
+-- or else those after
 abbrev pub changed_in : What → Forest → Forest → Forest
 changed_in What.Node before after = after
 changed_in (What.Part part) before after = after
 changed_in What.Added before after = after
 changed_in What.Dropped before after = before
 
--- the trees before an edit and after it differ by its change
+-- the trees before an edit at a slot and after it differ by the change
 pub record Differs (before after : PlainTree) (change : Change) : Type 0 where
   pub by : DifferBy change.what change.slot.0 before.items after.items
   pub within : procedure_of (changed_in change.what before.items after.items) change.slot.0 ≡ Some change.procedure.0

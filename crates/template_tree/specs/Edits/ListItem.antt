@@ -7,7 +7,7 @@ use Rattle.plcs_grammar.specs.Template.{PlainSection, row_of}
 use Rattle.template_tree.specs.Programs.PlainTree.{Forest, nodes}
 use Rattle.template_tree.specs.Listings.Section.{same_sort}
 
--- whether the items of a section stand in a list, and not one alone, by the amount of the section
+-- whether the items of a section of this amount stand in a list of items, and not one alone
 abbrev pub is_list : Amount → Bool
 is_list Amount.One = false
 is_list Amount.Many = true

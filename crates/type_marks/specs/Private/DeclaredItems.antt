@@ -1,4 +1,4 @@
--- Declared items among those of a procedure.
+-- Declared items among those of a procedure, and what is wrong with one of them.
 use Rattle.std.specs.Prelude.{◌≡◌, ℕ, ◌==◌, Bool, ◌&&◌, if◌then◌else◌, bytes_eq, List, ◌++◌, map, true, Option, Some, None}
 use Rattle.std.specs.List.{list_any}
 use Rattle.plcs_base.specs.declared.declared.Declared.{Declared}
@@ -28,8 +28,8 @@ judged_as earlier item (Some known) =
     if has_such item.name (cells_of known) earlier then Some MarkKind.Duplicate
     else (if cells_of item == cells_of known then None else Some MarkKind.TooManyCells)
 
--- what is wrong with an item that is declared behind these, where this is the effective item of its name: that the name
--- is reserved comes first
+-- what is wrong with a declared item among those of a procedure, behind these, where this is the effective item of its
+-- name: that the name is reserved comes first
 abbrev pub judged_item : (earlier : List Declared) → Declared → (effective : Option Declared) → Option MarkKind
 judged_item earlier item effective =
     if is_builtin_name item.name then Some MarkKind.Reserved else judged_as earlier item effective
