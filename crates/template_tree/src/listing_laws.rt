@@ -3,7 +3,7 @@ ghost use Rattle.template_tree.specs.Listings.Listing.{ListingSplitsInLines};
 
 use plcs_grammar::canonical_texts_show;
 
-/// What the listing of a tree's program is, split at each byte 10: its lines.
+/// The listing of a tree, split at each byte 10, is the lines of its program.
 pub fn listing_splits_in_lines()
     ensures { ListingSplitsInLines }
 {
