@@ -53,3 +53,8 @@ pub mod BegunBodies
 pub mod OnlySteps
 -- the law `entries_are_headings`
 pub mod HeadingEntries
+-- `code_ignores_room_and_elision`: what room and elision leave of a program, and the code of that
+pub mod Contents
+pub mod AlikeCodes
+-- `programs_have_one_code`
+pub mod ProgramCodes

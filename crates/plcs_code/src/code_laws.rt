@@ -1,6 +1,9 @@
 //! The laws of code, each a function that does nothing and whose contract states it.
 ghost use Rattle.plcs_code.specs.CodeLaws.{AddressesHoldSteps, CallsComeBack, EntriesAreHeadings, EntriesBeginProcedures, JumpsStayInNodes, JumpsStayInside, LengthsAreTold, OwnCodesAddUp, OwnCodesAreTold, OwnLengthsStay, PassedStartsStand, PlacesHaveAddresses, SpansHoldCode};
 ghost use Rattle.plcs_code.specs.Landing.{BodiesBegin, SecondBodiesBegin, StatementsGoOn, StepsHaveAddresses};
+ghost use Rattle.plcs_code.specs.ProgramCode.{CodeAsksItems, CodeIgnoresElision, CodeIgnoresRoom, CodeIsOfProgram, ProgramCodeIgnoresElision, ProgramCodeIgnoresRoom, ProgramItemsTell};
+
+use template_tree::checks_ignore_room_and_elision;
 
 /// How many instructions the code of each node has is told without that code: jumps don't change it. The own
 /// code of a node is as long, whatever stands inside it.
@@ -63,3 +66,22 @@ pub fn bodies_begin()
 pub fn steps_have_addresses()
     ensures { StepsHaveAddresses }
 {}
+
+/// Code doesn't depend on the room of lists, nor on which comments are elided, and of the map of items it asks only
+/// which items a slot has.
+pub fn code_ignores_room_and_elision()
+    ensures room { CodeIgnoresRoom }
+    ensures elision { CodeIgnoresElision }
+    ensures items { CodeAsksItems }
+{}
+
+/// A program has one code: that by any marks and items that tell of it, whatever the room of its lists, and
+/// whichever of its comments are elided.
+pub fn programs_have_one_code()
+    ensures items { ProgramItemsTell }
+    ensures made { CodeIsOfProgram }
+    ensures room { ProgramCodeIgnoresRoom }
+    ensures elision { ProgramCodeIgnoresElision }
+{
+    checks_ignore_room_and_elision();
+}

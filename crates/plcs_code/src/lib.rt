@@ -31,9 +31,9 @@ mod suspension;
 
 pub use block::{Block, Emitted};
 pub use code_laws::{
-    addresses_hold_steps, bodies_begin, entries_are_headings, jumps_stay_inside, lengths_are_told,
-    own_codes_add_up, places_have_addresses, spans_hold_code, statements_go_on,
-    steps_have_addresses,
+    addresses_hold_steps, bodies_begin, code_ignores_room_and_elision, entries_are_headings,
+    jumps_stay_inside, lengths_are_told, own_codes_add_up, places_have_addresses,
+    programs_have_one_code, spans_hold_code, statements_go_on, steps_have_addresses,
 };
 pub use code_view::CodeView;
 pub use flat_code::FlatCode;

@@ -22,5 +22,6 @@ pub mod Fits
 pub mod Resume
 -- ---- the laws
 pub mod StepLaws
+pub mod RunsAlike
 -- ---- what private contracts alone cite
 pub mod Private

@@ -1,6 +1,7 @@
 -- When a suspended run may be resumed in a program that was edited.
 use Rattle.std.specs.Prelude.{◌≡◌, ◌≢◌, ◌⊎◌, ℕ, ◌==◌, if◌then◌else◌, List, [], ◌∷◌, map, Option, Some, None, option_map, unwrap_or}
 use Rattle.plcs_base.specs.declared.declared.Declared.{Declared}
+use Rattle.plcs_grammar.specs.declared.node_kind.NodeKind.{NodeKind}
 use Rattle.plcs_grammar.specs.PlainPhrase.{PlainPhrase}
 use Rattle.template_tree.specs.Checks.Environment.{Items, procedure_at}
 use Rattle.template_tree.specs.Positions.Place.{PlainPlace, Start, site}
@@ -33,6 +34,19 @@ pub record IsKeptOf (program : Forest) (c : PlainConfiguration) (kept : Kept) : 
   pub headings : map (λ frame. heading_parts program frame.procedure.0) c.frames ≡ map Some kept.headings
   pub declared : map (λ frame. Items program frame.procedure.0) c.frames ≡ kept.declared
   pub held : map (λ frame. template_held program frame.place.slot.0) c.frames ≡ map Some kept.held
+
+-- what is kept for a slot in which nothing stands, so that what is kept is told of any run; where one fits the program no
+-- frame has such a slot
+abbrev pub nothing_held : HeldTemplate
+nothing_held = record { kind = NodeKind.StatementHole; parts = [] }
+
+-- what is kept of the program for a suspended run, told of it: where the run fits the program, this is kept and nothing else
+unfoldable pub kept_of : (program : Forest) → PlainConfiguration → Kept
+kept_of program c = record {
+  headings = map (λ frame. unwrap_or (heading_parts program frame.procedure.0) []) c.frames;
+  declared = map (λ frame. Items program frame.procedure.0) c.frames;
+  held = map (λ frame. unwrap_or (template_held program frame.place.slot.0) nothing_held) c.frames;
+}
 
 -- ---- the three questions, asked of a frame
 

@@ -23,6 +23,7 @@ mod output_item;
 mod reason;
 mod refusal;
 mod room;
+mod run_laws;
 mod run_state;
 mod step_laws;
 mod undo;
@@ -48,6 +49,7 @@ pub use output::{Output, OutputFull};
 pub use output_item::write_items;
 pub use reason::{Reason, RunReason};
 pub use refusal::ResumeRefusal;
+pub use run_laws::{kept_is_one, runs_ignore_room_and_elision};
 pub use run_state::{Run, RunState};
 pub use step_laws::{
     callers_wait, items_keep_limits, new_runs_fit, steps_do_allowed_acts, steps_keep_fit,

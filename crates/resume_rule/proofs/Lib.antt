@@ -22,3 +22,5 @@ pub mod ResolvedRuns
 pub mod KeptEntries
 -- `answers_follow_frames`
 pub mod SameAnswers
+-- `answers_ignore_room_and_elision`
+pub mod AlikePrograms

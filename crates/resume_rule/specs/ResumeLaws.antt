@@ -1,10 +1,12 @@
 -- The laws of resumption: what fitted a tree and may be resumed in an edited one fits that, what is kept has an entry for
 -- each frame, and what the answer depends on.
-use Rattle.std.specs.Prelude.{◌≡◌, map, Option, None}
+use Rattle.std.specs.Prelude.{◌≡◌, ◌↔◌, ℕ, List, map, Option, None}
 use Rattle.template_tree.specs.Checks.Environment.{Items}
-use Rattle.template_tree.specs.Programs.PlainTree.{Forest, PlainTree}
+use Rattle.template_tree.specs.Edits.Edit.{edit_at}
+use Rattle.template_tree.specs.Edits.Elision.{toggled}
+use Rattle.template_tree.specs.Programs.PlainTree.{Forest, PlainTree, roomless}
 use Rattle.template_tree.specs.Programs.Tree.{IsTree}
-use Rattle.tree_steps.specs.EditStep.{CameByEdits}
+use Rattle.tree_steps.specs.EditStep.{CameByEdits, substance}
 use Rattle.tree_steps.specs.SlotAgreement.{AgreesWith}
 use Rattle.plcs_store.specs.declared.kept.Kept.{Kept}
 use Rattle.plcs_store.specs.declared.refusal.ResumeRefusal.{ResumeRefusal}
@@ -66,3 +68,19 @@ abbrev pub ChangedBackResumes : Type 0
 ChangedBackResumes =
     (earlier later : Forest) (c : PlainConfiguration) (kept : Kept) → IsKeptOf earlier c kept → HasSameForFrames later earlier c
     → MayResume kept c later None
+
+-- programs of the same substance have the same for each frame, whatever the run that is to be resumed
+abbrev pub SubstanceHasSame : Type 0
+SubstanceHasSame = (one other : Forest) (c : PlainConfiguration) → substance one ≡ substance other → HasSameForFrames one other c
+
+-- the answer to whether a run may be resumed doesn't depend on the room of lists
+abbrev pub AnswersIgnoreRoom : Type 0
+AnswersIgnoreRoom =
+    (program : Forest) (c : PlainConfiguration) (kept : Kept) (answer : Option ResumeRefusal)
+    → MayResume kept c (roomless program) answer ↔ MayResume kept c program answer
+
+-- the answer to whether a run may be resumed doesn't depend on which comments are elided
+abbrev pub AnswersIgnoreElision : Type 0
+AnswersIgnoreElision =
+    (program : Forest) (path : List ℕ) (c : PlainConfiguration) (kept : Kept) (answer : Option ResumeRefusal)
+    → MayResume kept c (edit_at toggled path program) answer ↔ MayResume kept c program answer

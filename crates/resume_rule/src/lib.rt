@@ -9,6 +9,7 @@ mod resumption;
 
 pub use plcs_store::ResumeRefusal;
 pub use resume_laws::{
-    answers_follow_frames, fitting_runs_are_resolved, kept_has_entries, resumed_runs_fit,
+    answers_follow_frames, answers_ignore_room_and_elision, fitting_runs_are_resolved,
+    kept_has_entries, resumed_runs_fit,
 };
 pub use resumption::may_resume;

@@ -1,8 +1,8 @@
 //! The laws of resumption, in programs that were edited too, each a function that does nothing and whose
 //! contract states it.
-ghost use Rattle.resume_rule.specs.ResumeLaws.{AnswersFollowFrames, ChangedBackResumes, EditedRunsFit, FittingRunsResolved, KeptHasEntries, ResumedRunsFit};
+ghost use Rattle.resume_rule.specs.ResumeLaws.{AnswersFollowFrames, AnswersIgnoreElision, AnswersIgnoreRoom, ChangedBackResumes, EditedRunsFit, FittingRunsResolved, KeptHasEntries, ResumedRunsFit, SubstanceHasSame};
 
-use plcs_store::unedited_may_resume;
+use plcs_store::{runs_ignore_room_and_elision, unedited_may_resume};
 use tree_steps::{agreement_lasts, list_marks_follow_items, places_last, sites_stand, slots_stand};
 
 /// A run that fitted a tree, and may be resumed in one that agrees with it by its slots, fits this one once its
@@ -35,4 +35,14 @@ pub fn answers_follow_frames()
     ensures back { ChangedBackResumes }
 {
     unedited_may_resume();
+}
+
+/// Whether a run may be resumed doesn't depend on the room of lists, nor on which comments are elided: programs of
+/// the same substance have the same for its frames.
+pub fn answers_ignore_room_and_elision()
+    ensures same { SubstanceHasSame }
+    ensures room { AnswersIgnoreRoom }
+    ensures elision { AnswersIgnoreElision }
+{
+    runs_ignore_room_and_elision();
 }

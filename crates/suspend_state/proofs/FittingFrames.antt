@@ -18,7 +18,7 @@ frame_or other None = other
 frame_or other (Some frame) = frame
 
 -- a frame of those that stand stands somewhere
-each_stands : (program : Forest) (frames : List Frame) (number : ℕ) (frame : Frame) → AllStand program frames
+pub each_stands : (program : Forest) (frames : List Frame) (number : ℕ) (frame : Frame) → AllStand program frames
     → slice_get frames number ≡ Some frame → (waits : Bool) × StandsAt program waits frame
 each_stands program [] number frame all e = absurd (none-some frame e)
 each_stands program (one ∷ []) zero frame all e = (false, subst (StandsAt program false) (ap (frame_or one) e) all.0)

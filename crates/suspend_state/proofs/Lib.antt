@@ -4,6 +4,8 @@ pub mod FoundSites
 pub mod BegunNodes
 -- `kept_of`: what fits is found
 pub mod FittingFrames
+-- `fitting_runs_are_kept`
+pub mod KeptFrames
 -- the copies
 pub mod CopiedLists
 -- `copied_parts`

@@ -5,9 +5,9 @@ use Rattle.plcs_store.specs.declared.kept.Kept.{Kept}
 use Rattle.plcs_store.specs.declared.reason.RunReason.{RunReason}
 use Rattle.plcs_store.specs.declared.run_state.Run.{Run}
 use Rattle.plcs_store.specs.declared.run_state.RunState.{RunState}
-use Rattle.plcs_store.specs.Configuration.{plain_configuration}
+use Rattle.plcs_store.specs.Configuration.{PlainConfiguration, plain_configuration}
 use Rattle.plcs_store.specs.Fits.{Fits}
-use Rattle.plcs_store.specs.Resume.{IsKeptOf}
+use Rattle.plcs_store.specs.Resume.{IsKeptOf, kept_of}
 
 -- a run in the state as it is made: paused, as one that is suspended, with nothing kept of its program
 abbrev pub paused : RunState → Run
@@ -31,3 +31,7 @@ KeepsBeside (Some before) program old new = new ≡ old
 -- a run keeps the program as it was when it was first about to be edited
 abbrev pub Keeps : (program : Forest) → (old new : Run) → Type 0
 Keeps program old new = KeepsBeside old.kept program old new
+
+-- the law of what a suspended run keeps: for a run that fits a program, what is kept of that is there
+abbrev pub FittingRunsAreKept : Type 0
+FittingRunsAreKept = (program : Forest) (c : PlainConfiguration) → Fits program c → IsKeptOf program c (kept_of program c)
