@@ -13,7 +13,7 @@ use plcs_store::{RunState, Undo};
 use std::alloc::Global;
 use std::marker::Model;
 
-/// No record of a step is held.
+/// The history of a run holds no record of a step, so that none is taken back.
 #[derive(Clone, Copy, Debug, PartialEq, Eq)]
 pub struct NoHistory;
 

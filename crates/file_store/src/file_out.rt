@@ -53,7 +53,7 @@ impl<'a, F: Files> FileOut<'a, F> {
         self.flush();
     }
 
-    /// Passes the bytes of a tree's listing on, through the sink, to the file that is begun.
+    /// Puts the bytes of a tree's listing into this sink, which passes them on to the file that is begun.
     fn put_listing(&mut self, tree: &Tree)
         requires tree { IsTree tree.now }
         ensures sent { Sent

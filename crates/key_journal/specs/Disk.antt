@@ -81,7 +81,8 @@ WritesKeepImages = (state : DiskState) (at : ℕ) (piece : List ℕ) → at ≤ 
     ReadsAsImage state →
     ReadsAsImage (with_range state at (length piece) (overwritten state.bytes at piece))
 
--- a write to a disk that was done in part keeps what the disk reads as among the images that a crash may leave of it
+-- a write to any disk of which a part alone was done keeps what the disk reads as among the images that a crash may
+-- leave of it
 abbrev pub TearsKeepImages : Type 0
 TearsKeepImages = (state : DiskState) (at count : ℕ) (bytes : List ℕ) →
     Torn at count state.bytes bytes → ReadsAsImage state → ReadsAsImage (with_range state at count bytes)

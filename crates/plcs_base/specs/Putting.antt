@@ -2,7 +2,7 @@
 use Rattle.std.proofs.Common.{ℕ, List, [], ◌∷◌, ◌++◌, ◌≡◌, subst}
 use Rattle.plcs_base.specs.Put.{PutsAll, puts_nothing, puts_next, PutsInTurn}
 
--- several bytes are put in turn: putting some and then some more puts the ones followed by the others
+-- putting some bytes in turn and then others puts them joined, which follows byte by byte
 pub puts_append : {Out : Type 0} {puts : Out → ℕ → Out → Type 0} {before between after : Out} {first second : List ℕ}
     → PutsAll puts before first between → PutsAll puts between second after → PutsAll puts before (first ++ second) after
 puts_append puts_nothing more = more

@@ -38,9 +38,9 @@ pub trait CodeView<W: Work> {
     fn procedure(&self, name: &Name) -> Option<Slot>
         ensures { result ≡ option_map (λ entry. entry.slot) (get (code self.now).headings name.now) };
 
-    /// The address of the first instruction and the number of instructions of the code of what stands in
-    /// the slot, inner nodes included, or `None` where the slot isn't live or has no code: where a
-    /// declaration or a hole for a procedure stands.
+    /// In the viewed code, where the code of what stands in the slot is, inner nodes included: the address of
+    /// the first instruction and the number of instructions, or `None` where the slot isn't live or has no
+    /// code: where a declaration or a hole for a procedure stands.
     fn span(&self, slot: Slot) -> Option<(u32, u32)>
         ensures { result ≡ get (code self.now).spans slot.0 };
 }

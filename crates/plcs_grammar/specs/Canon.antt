@@ -94,6 +94,6 @@ Canon (PlainPhrase.comment bytes) = bytes
 abbrev pub longest_shown : ℕ
 longest_shown = 4294967295
 
--- a phrase is well formed: its canonical text reads as that same phrase
+-- the canonical text of a phrase gives it back, so that the phrase is well formed: the text reads as that same phrase
 abbrev pub IsWellFormed : Category → PlainPhrase → Type 0
 IsWellFormed category phrase = Reads category (Canon phrase) phrase

@@ -52,7 +52,7 @@ pub(crate) fn next_address(doing: &Doing) -> Option<u32>
     }
 }
 
-/// What an instruction leads to, the last one of a walk, with the address behind it, and how many fetches are
+/// What an instruction leads to that goes on to no other, with the address behind it, and how many fetches are
 /// left.
 #[derive(Drop)]
 pub(crate) struct Walked {

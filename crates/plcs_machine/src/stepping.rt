@@ -193,7 +193,8 @@ fn finish<W: Work, C: CodeView<W>>(
     }
 }
 
-/// Writes so many newest operands, on a new line or not, and goes on behind that.
+/// Ends one step of a run that writes so many newest operands, on a new line or not: the run goes on behind
+/// that, or stops where the output would be too long.
 fn put<W: Work, C: CodeView<W>>(
     code: &C,
     skip: bool,

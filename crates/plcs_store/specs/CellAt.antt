@@ -61,7 +61,7 @@ element_of variable None = Outcome.gives 0
 element_of variable (Some z) =
     if int_le (pos 1) z && int_le z (pos variable.size) then Outcome.gives (nat_abs z - 1) else faults FaultKind.SubscriptRange
 
--- for which location a variable of the newest frame finally stands, with this subscript or none
+-- where the cell is for which a variable of the newest frame, with this subscript or none, finally stands: its location
 abbrev pub located : List Frame → (name : List ℕ) → (subscript : Option ℤ) → Outcome Location
 located frames name subscript =
     then_gives (if_there (variable_at frames (newest frames) name)) (λ variable.

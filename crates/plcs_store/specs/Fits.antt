@@ -23,7 +23,8 @@ use Rattle.plcs_store.specs.Limit.{most_frames}
 
 -- ---- where frames stand
 
--- whether a place at which a template stands is that of a CALL which waits for what it called
+-- in a configuration that fits a program, whether a frame that stands at this point of a node of the template is at a
+-- CALL, and waits there for what it called
 abbrev pub waits_in_template : Template → (point : ℕ) → Bool
 waits_in_template Template.Fixed point = false
 waits_in_template Template.Bit point = false
@@ -42,7 +43,8 @@ waits_in_template Template.Comment point = false
 waits_in_template Template.Proc point = false
 waits_in_template Template.ProcP point = false
 
--- whether a place at which a frame stands, by the kind of its node, is that of a CALL which waits for what it called
+-- in a configuration that fits a program, whether a frame that stands at this point of a node of the kind is at a CALL,
+-- and waits there for what it called
 abbrev pub is_waiting_place : NodeKind → (point : ℕ) → Bool
 is_waiting_place NodeKind.DeclarationHole point = false
 is_waiting_place NodeKind.StatementHole point = false

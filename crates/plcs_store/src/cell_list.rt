@@ -24,7 +24,7 @@ impl Model for CellList {
 }
 
 impl CellList {
-    /// The cells as a list. It takes no memory.
+    /// The list of these cells, as those of one variable. It takes no memory.
     pub fn from_vec(cells: Vec<Cell>) -> CellList
         ensures { result ≡ cells.items }
     {
@@ -51,14 +51,14 @@ impl CellList {
         Ok(CellList { cells })
     }
 
-    /// The cells, without taking memory.
+    /// Gives the cells of the one variable back. It takes no memory.
     pub fn into_vec(self) -> Vec<Cell>
         ensures { result.items ≡ self }
     {
         self.cells
     }
 
-    /// The cells in order.
+    /// The cells of the one variable in order.
     pub fn as_slice(&self) -> &[Cell]
         ensures { result.now ≡ self.now }
     {

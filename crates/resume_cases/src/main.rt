@@ -126,7 +126,8 @@ fn ask(bench: &Bench, input: &[u8], call: Call, words: &[Vec<u8>], told: &mut To
     }
 }
 
-/// Makes the bytes of a word of the script the input of its runs, and tells how many there are.
+/// In a script of cases on runs that stand still, makes the bytes of a word the input of the runs, and tells
+/// how many there are.
 fn keep_input(held: &mut Held, input: &[u8], told: &mut Told) -> Option<()>
     requires { IsBench held.old.bench }
     ensures { IsBench held.new.bench }

@@ -30,8 +30,8 @@ pub(crate) fn run(bench: &mut Bench, told: &mut Told) -> Option<()>
     Some(())
 }
 
-/// A new run of the program, of which no step is made that could be taken back, or `None` where memory runs
-/// out.
+/// The run of a bench begun anew by the code of its program: no step is made that could be taken back. `None`
+/// where memory runs out.
 fn begun(alloc: Global, tree: &Tree) -> Option<Suspended>
     requires { IsTree tree.now }
     ensures { IfSome result (SuspendedIn tree.now) }
@@ -44,7 +44,7 @@ fn begun(alloc: Global, tree: &Tree) -> Option<Suspended>
     })
 }
 
-/// The state of a run of the program before its first step, or `None` where memory runs out.
+/// The state of the run of a bench that is begun anew, before its first step, or `None` where memory runs out.
 fn first_state(alloc: Global, tree: &Tree) -> Option<RunState>
     requires { IsTree tree.now }
     ensures fits { IfSome result (λ state. Fits tree.now.items (plain_configuration state)) }

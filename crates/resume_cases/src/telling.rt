@@ -29,7 +29,7 @@ pub(crate) fn tell_paused(suspended: &Suspended, told: &mut Told) {
     told.line(" held");
 }
 
-/// Tells where a run stands: the slot and the point of the place.
+/// Of a run that stands still, tells a place where it stands: the slot and the point.
 fn put_place(place: Place, told: &mut Told) {
     told.text("at ");
     told.value(&place.slot.0);

@@ -53,7 +53,7 @@ pub(crate) fn tell_place(state: &RunState, told: &mut Told) {
     told.value(&state.frames.count().saturating_sub(1));
 }
 
-/// Tells at which place a run is.
+/// Of what a run is in, tells the place at which a frame stands.
 fn tell_at(place: Place, told: &mut Told) {
     told.text(", at ");
     told.value(&place.slot.0);

@@ -79,7 +79,7 @@ enum Kind {
     Write,
 }
 
-/// The read or the write of a whole run that is to fail by these words.
+/// For a case of whole runs, the read of keys or the write of a screen that is to fail, as these words say.
 fn failing_of(kind: &[u8], number: &[u8]) -> Option<Failing> {
     let number = u64::from(number_of(number)?);
     match meaning(&KINDS, kind)? {

@@ -56,7 +56,7 @@ abbrev pub bytes_given : {run : Status} {options : PlainOptions} {before now : T
 bytes_given (inl unopened) = []
 bytes_given (inr ran) = ran.course.bytes
 
--- a key ended the session whose keys are kept
+-- in a session whose keys are kept, one of the keys that the editor was given ended it
 abbrev pub IsQuit : {run : Status} {options : PlainOptions} {before now : Told}
     {after_reads after_fault : Type 0} → Ended run options before now after_reads after_fault → Type 0
 IsQuit (inl unopened) = ⊥

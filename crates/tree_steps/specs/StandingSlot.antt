@@ -24,8 +24,8 @@ abbrev pub outermost_slot : (slot : ℕ) → Around → ℕ
 outermost_slot slot [] = slot
 outermost_slot slot (node ∷ around) = outermost_slot node.0 around
 
--- of a node of the template, in which another is enclosed, the loops that a run keeps: the slot of a For alone; a While
--- tests anew each time
+-- of a node that encloses a standing slot, by its template: its own slot as a list of loops, if it is a loop that a run
+-- keeps, as a For alone is; a While tests anew each time
 abbrev pub loop_by_template : Template → (slot : ℕ) → List ℕ
 loop_by_template Template.Fixed slot = []
 loop_by_template Template.Bit slot = []

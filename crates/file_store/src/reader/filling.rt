@@ -123,7 +123,8 @@ pub(crate) fn is_text(text: &[u8], own: Option<&[u8]>) -> bool
     }
 }
 
-/// Whether a list may end that has come so far: all of the sections that it has left may be absent.
+/// Whether a list that is read has come so far that it may end: each of the sections that it has left may be
+/// absent.
 fn are_optional(sections: &[Section]) -> bool
     ensures { result ≡ optional (map plain_section sections.now) }
 {

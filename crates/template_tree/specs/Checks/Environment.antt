@@ -85,8 +85,8 @@ all_declared (Forest.cons label inner rest) = declares label ++ all_declared res
 
 -- ---- which items are effective
 
--- how many cells an item has that is declared with this size: one as a scalar, whose size is 0, and as an array its
--- size
+-- how many cells an item has by the size that the declarations of a program say of it: one as a scalar, whose size is
+-- 0, and as an array its size
 abbrev pub cells_in : (size : ℕ) → ℕ
 cells_in size = if size == 0 then 1 else size
 

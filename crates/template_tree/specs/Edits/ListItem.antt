@@ -30,7 +30,7 @@ siblings_at items [] = Forest.nil
 siblings_at items (k ∷ []) = items
 siblings_at items (k ∷ (j ∷ path)) = option_map_or (λ node. siblings_at node.inner (j ∷ path)) (slice_get (nodes items) k) Forest.nil
 
--- how many items the list of the sort has, among nodes that are told by their sorts
+-- how many items stand in the list of the sort, where these are the sorts of the nodes among which a node stands
 abbrev pub how_many : Sort → List Sort → ℕ
 how_many sort [] = 0
 how_many sort (one ∷ others) = (if same_sort sort one then 1 else 0) + how_many sort others

@@ -37,12 +37,12 @@ abbrev pub forest : List PlainNode → Forest
 forest [] = nil
 forest (node ∷ rest) = cons node.label node.inner (forest rest)
 
--- a list of nodes made a forest and listed again is the list
+-- a list of nodes as plain data, made a forest and then a list of nodes again, is the same list
 pub nodes_forest : (items : List PlainNode) → nodes (forest items) ≡ items
 nodes_forest [] = refl
 nodes_forest (node ∷ rest) = ap (λ items. node ∷ items) (nodes_forest rest)
 
--- a forest listed and made a forest again is the forest
+-- a forest, which is nodes as plain data, made a list of nodes and then a forest again, is the same forest
 pub forest_nodes : (items : Forest) → forest (nodes items) ≡ items
 forest_nodes nil = refl
 forest_nodes (cons label inner rest) = ap (λ items. cons label inner items) (forest_nodes rest)
