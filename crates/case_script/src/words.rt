@@ -47,7 +47,7 @@ pub fn numbers_of(alloc: Global, words: &[Vec<u8>]) -> Option<Vec<u64>> {
     Some(numbers)
 }
 
-/// The value of a decimal digit of a word.
+/// The value of a decimal digit of a word of a line, as numbers in scripts are spelled.
 fn digit_of(byte: u8) -> Option<u32> {
     match byte {
         b'0'..=b'9' => Some((byte - b'0') as u32),

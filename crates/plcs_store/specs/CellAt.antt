@@ -19,7 +19,7 @@ use Rattle.plcs_store.specs.Outcome.{Outcome, faults, if_there, then_gives}
 abbrev pub newest : List Frame → ℕ
 newest frames = length frames - 1
 
--- where the cells of a frame are: in its variables, each under its name
+-- where the cells of frames are: in the variables of each, each under its name
 abbrev pub Variables : Type 0
 Variables = List (List ℕ × Variable)
 

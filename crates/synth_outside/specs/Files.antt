@@ -37,7 +37,7 @@ abbrev pub begun_bytes : Option NewContent → Option (List ℕ)
 begun_bytes None = None
 begun_bytes (Some content) = content.bytes
 
--- the name of the file for which a call began a new content; where none did, the empty one
+-- for which name a call on files began a new content, of those that aren't committed yet; where none did, the empty one
 abbrev pub begun_name : Option NewContent → List ℕ
 begun_name None = []
 begun_name (Some content) = content.name
