@@ -4,12 +4,10 @@ use Rattle.std.specs.Prelude.{◌≡◌, refl, ℕ, zero, suc, Bool, IsSome, IsT
 use Rattle.std.proofs.Math.Bool.{false≢true}
 use Rattle.template_tree.specs.Checks.Environment.{procedure_at}
 use Rattle.template_tree.specs.Positions.Place.{Site, place_exists_at, site}
-use Rattle.template_tree.specs.Programs.PlainTree.{Forest, PlainNode}
+use Rattle.template_tree.specs.Programs.PlainTree.{PlainNode}
 use Rattle.tree_steps.specs.RunPlace.{is_first_marked}
 use Rattle.plcs_store.specs.declared.frame.Frame.{Frame}
 use Rattle.plcs_store.specs.declared.held_template.HeldTemplate.{HeldTemplate}
-use Rattle.plcs_store.specs.Configuration.{PlainConfiguration}
-use Rattle.plcs_store.specs.Fits.{Fits}
 use Rattle.plcs_store.specs.Resume.{heading_parts, kept_of, nothing_held, template_held}
 use Rattle.suspend_state.specs.Suspension.{FittingRunsAreKept}
 use Rattle.suspend_state.proofs.FittingFrames.{each_stands, have_procedures}
