@@ -120,7 +120,7 @@ module _ (code : PlainCode) (rest : List ℕ) (c : PlainConfiguration) where
   goes_nowhere left next (Doing.Reads location value count) values arguments ends = refl
   goes_nowhere left next (Doing.Leads (Led.GoesOn target)) values arguments ends = absurd (false≢true (sym (ap (λ (o : Option ℕ). is_some o) ends)))
   goes_nowhere left next (Doing.Leads (Led.Acts act address)) values arguments ends = refl
-  goes_nowhere left next (Doing.Leads (Led.Enters slot address)) values arguments ends = refl
+  goes_nowhere left next (Doing.Leads (Led.Enters entry count)) values arguments ends = refl
   goes_nowhere left next (Doing.Leads (Led.Arrives place)) values arguments ends = refl
   goes_nowhere left next (Doing.Leads Led.Ends) values arguments ends = refl
   goes_nowhere left next (Doing.Leads (Led.Stops reason)) values arguments ends = refl
@@ -133,7 +133,7 @@ module _ (code : PlainCode) (rest : List ℕ) (c : PlainConfiguration) where
   goes_there next (Doing.Leads (Led.GoesOn address)) values arguments target is =
       ap (λ (o : Option ℕ). Outcome.gives (Lead.goes_on (unwrap_or o 0) values arguments)) is
   goes_there next (Doing.Leads (Led.Acts act address)) values arguments target is = absurd (false≢true (ap (λ (o : Option ℕ). is_some o) is))
-  goes_there next (Doing.Leads (Led.Enters slot address)) values arguments target is = absurd (false≢true (ap (λ (o : Option ℕ). is_some o) is))
+  goes_there next (Doing.Leads (Led.Enters entry count)) values arguments target is = absurd (false≢true (ap (λ (o : Option ℕ). is_some o) is))
   goes_there next (Doing.Leads (Led.Arrives place)) values arguments target is = absurd (false≢true (ap (λ (o : Option ℕ). is_some o) is))
   goes_there next (Doing.Leads Led.Ends) values arguments target is = absurd (false≢true (ap (λ (o : Option ℕ). is_some o) is))
   goes_there next (Doing.Leads (Led.Stops reason)) values arguments target is = absurd (false≢true (ap (λ (o : Option ℕ). is_some o) is))

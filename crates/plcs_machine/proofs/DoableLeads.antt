@@ -26,7 +26,7 @@ use Rattle.plcs_store.specs.Outcome.{Outcome, faults, if_there, then_gives}
 use Rattle.plcs_store.specs.Step.{caller_place, entry_going, is_over, item_act, item_outcome, loop_going, output_act, storing}
 use Rattle.plcs_store.specs.OutputItem.{output_with}
 use Rattle.plcs_store.specs.Undone.{loop_at}
-use Rattle.plcs_machine.specs.Lead.{Lead, address_of, acting_at, add_lead, body_address, builtin_lead, call_lead, enter_lead, enters_lead, for_next_lead, get_lead, has_loop_room, has_operand_room, jump_target, jumped, lead, leave_lead, load_lead, on_newest, on_newest_number, push_lead, put_lead, reference_lead, store_lead, then_acts}
+use Rattle.plcs_machine.specs.Lead.{Lead, address_of, acting_at, add_lead, body_address, builtin_lead, call_lead, enter_lead, enters_lead, for_next_lead, get_lead, has_loop_room, has_operand_room, jump_target, jumped, lead, leave_lead, load_lead, newest_arguments, on_newest, on_newest_number, push_lead, put_lead, reference_lead, store_lead, then_acts}
 use Rattle.plcs_machine.specs.Reached.{reached}
 use Rattle.plcs_machine.specs.Private.DoableLead.{ActsOn, IsDoable}
 use Rattle.plcs_machine.proofs.DefinedReach.{Reaches, reached_there}
@@ -282,12 +282,15 @@ module _ (frames : List Frame) where
 
   call_doable : (code : PlainCode) (name : List ℕ) (n : ℕ) (arguments : List Argument) → IsDoable frames (call_lead code frames name n arguments)
   call_doable code name n arguments =
-      if_doable (length arguments == n) (then_gives (if_there (get code.headings name)) (enters_lead frames arguments)) Outcome.undefined
-      (then_doable (if_there (get code.headings name)) (enters_lead frames arguments)
+      if_doable (nat_le n (length arguments)) (then_gives (if_there (get code.headings name)) (enters_lead frames given)) Outcome.undefined
+      (then_doable (if_there (get code.headings name)) (enters_lead frames given)
       (λ entry. entered entry (nat_le most_frames (length frames)) refl)) tt
     where
+      given : List Argument
+      given = newest_arguments n arguments
+
       entered : (entry : HeadingEntry) (many : Bool) → nat_le most_frames (length frames) ≡ many
-          → IsDoable frames (if many then faults FaultKind.CallDepth else Outcome.gives (Lead.enters entry.slot.0 entry.address arguments))
+          → IsDoable frames (if many then faults FaultKind.CallDepth else Outcome.gives (Lead.enters entry.slot.0 entry.address given))
       entered entry true is = tt
       entered entry false is = leb-false most_frames (length frames) is
 

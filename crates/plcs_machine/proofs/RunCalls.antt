@@ -1,12 +1,12 @@
 -- A call by code: the procedure's cells are made from its arguments and from its items, which are those of the frame that the tree's step
 -- makes, and the step ends where a run begins in the procedure. The code of the call and that of the cells have no instruction in common,
 -- so both together are fetched within as many fetches as there are instructions.
-use Rattle.std.specs.Prelude.{◌≡◌, refl, ℕ, zero, suc, ◌+◌, ◌≤◌, ◌<◌, ◌==◌, nat_le, ℤ, Bool, true, false, not, bytes_eq, flat_map, if◌then◌else◌, List, [], ◌∷◌, ◌++◌, length, map, slice_get, Option, Some, None, is_some, option_and_then, option_map}
+use Rattle.std.specs.Prelude.{◌≡◌, refl, ℕ, zero, suc, ◌+◌, ◌-◌, ◌≤◌, ◌<◌, ◌==◌, nat_le, ℤ, Bool, true, false, not, bytes_eq, flat_map, if◌then◌else◌, List, [], ◌∷◌, ◌++◌, drop, length, map, slice_get, Option, Some, None, is_some, option_and_then, option_map}
 use Rattle.std.specs.FinMap.{get}
 use Rattle.std.specs.List.{list_all, list_any}
 use Rattle.std.proofs.Common.{ap, sym, ◌∙◌, subst, arith, append_assoc, ◌⊎◌, inl, inr}
 use Rattle.std.proofs.Math.Bool.{false≢true}
-use Rattle.std.proofs.lemmas.Bool.{eq-eqb}
+use Rattle.std.proofs.lemmas.Bool.{le-leb}
 use Rattle.std.proofs.lemmas.List.{append-nil, length-append}
 use Rattle.std.proofs.lemmas.Option.{none-some, same_Some}
 use Rattle.plcs_base.specs.declared.declared.Declared.{Declared}
@@ -34,7 +34,7 @@ use Rattle.plcs_store.specs.Spot.{Callee}
 use Rattle.plcs_store.specs.Step.{PlainStepAnswer, call_going, enter_going, step_answer}
 use Rattle.plcs_machine.specs.Exec.{called}
 use Rattle.plcs_machine.specs.Fetched.{Fetched, behind_one, result_of, with_result}
-use Rattle.plcs_machine.specs.Lead.{Lead, enters_lead}
+use Rattle.plcs_machine.specs.Lead.{Lead, enters_lead, newest_arguments}
 use Rattle.plcs_machine.specs.Passing.{Landing, Making, passed, passing_of, settle, with_unset, with_variable, with_variables}
 use Rattle.plcs_machine.specs.Reached.{reached}
 use Rattle.plcs_machine.proofs.CalledFrames.{all_parts, first_made, kept_items, parameter_is}
@@ -334,6 +334,12 @@ has_within instrs address (instr ∷ []) some has = let less = read_within instr
 has_within instrs address (instr ∷ (next ∷ code)) some has =
     let behind = has_within instrs (address + 1) (next ∷ code) (omega arith) has.1 in omega (arith, behind)
 
+-- where there are no more arguments than are taken, the newest are all
+all_newest : (n : ℕ) (arguments : List Argument) → length arguments ≡ n → newest_arguments n arguments ≡ arguments
+all_newest n arguments count =
+    let none : length arguments - n ≡ zero = omega (arith, count) in
+    ap (λ (k : ℕ). drop k arguments) none
+
 called_result : (c : PlainConfiguration) (slot : ℕ) (landed : Option (Fetched Landing))
     → result_of (option_map (λ (one : Fetched Landing). behind_one (with_result (called c slot) one)) landed) ≡ option_map (called c slot) (result_of landed)
 called_result c slot None = refl
@@ -398,12 +404,15 @@ module _ (code : PlainCode) (rest : List ℕ) (c : PlainConfiguration)
       (answer_then c (argument_values c.frames es) (enter_going c.frames callee))
       (meets_after (argument_values c.frames es) (λ found. answer code rest c (suc m) at [] found) (λ found. step_answer c (enter_going c.frames callee found))
       (λ found is.
+      let count = arguments_count c.frames es found is in
+      let given = newest_arguments (expr_count es) found in
       meets_by (answer code rest c (suc m) at [] found) (led code rest c m (enters_lead c.frames found entry))
       (step_answer c (enter_going c.frames callee found)) (step_answer c (enter_going c.frames callee found))
       (one_step code rest c (suc m) m at [] found instr refl ((has_second code.instrs address at own (instr ∷ []) refl has).0)
-      ∙ (ap (λ (b : Bool). led code rest c m (if b then then_gives (if_there (get code.headings name)) (enters_lead c.frames found) else Outcome.undefined))
-      (eq-eqb (length found) (expr_count es) (arguments_count c.frames es found is))
-      ∙ ap (λ (o : Option HeadingEntry). led code rest c m (then_gives (if_there o) (enters_lead c.frames found))) enters.known))
+      ∙ (ap (λ (b : Bool). led code rest c m (if b then then_gives (if_there (get code.headings name)) (enters_lead c.frames given) else Outcome.undefined))
+      (le-leb (expr_count es) (length found) (omega (arith, count)))
+      ∙ (ap (λ (o : Option HeadingEntry). led code rest c m (then_gives (if_there o) (enters_lead c.frames given))) enters.known
+      ∙ ap (λ (taken : List Argument). led code rest c m (enters_lead c.frames taken entry)) (all_newest (expr_count es) found count))))
       refl
       (by found m (nat_le most_frames (length c.frames)) (parameter_variables c.frames callee.items callee.parameters found) refl (omega (arith, fit, fuel, long, enough)))))
     where

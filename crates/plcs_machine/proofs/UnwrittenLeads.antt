@@ -1,6 +1,6 @@
 -- What an instruction leads to that neither writes nor reads: neither the input nor the output plays a part in it. Where one is
 -- defined, it is so whatever was written before.
-use Rattle.std.specs.Prelude.{◌≡◌, refl, ℕ, ◌==◌, nat_le, Bool, true, false, if◌then◌else◌, List, [], length, take, reverse, Option, Some, None}
+use Rattle.std.specs.Prelude.{◌≡◌, refl, ℕ, nat_le, Bool, true, false, if◌then◌else◌, List, [], length, take, reverse, Option, Some, None}
 use Rattle.std.specs.FinMap.{get}
 use Rattle.std.proofs.Math.Bool.{false≢true}
 use Rattle.plcs_base.specs.declared.value.Value.{Value}
@@ -16,7 +16,7 @@ use Rattle.plcs_store.specs.Limit.{most_frames, most_output}
 use Rattle.plcs_store.specs.Outcome.{Outcome, faults, if_there, then_gives}
 use Rattle.plcs_store.specs.OutputItem.{output_with}
 use Rattle.plcs_store.specs.Step.{output_act}
-use Rattle.plcs_machine.specs.Lead.{Lead, call_lead, enters_lead, lead, put_lead, then_acts}
+use Rattle.plcs_machine.specs.Lead.{Lead, call_lead, enters_lead, lead, newest_arguments, put_lead, then_acts}
 use Rattle.plcs_machine.specs.Private.InstructionLead.{named_call_lead}
 use Rattle.plcs_machine.specs.Private.PlainLed.{IsNeither, is_address, is_fine}
 
@@ -139,32 +139,39 @@ is_neither Instr.Leave no_put no_skip no_get no_get_at = tt
 
 -- ---- calls
 
--- a call is what it is by its name alone
+-- a call is what it is by its name and the arguments that it takes
 pub call_named : (code : PlainCode) (frames : List Frame) (name : List ℕ) (n : ℕ) (arguments : List Argument)
-    → is_fine (call_lead code frames name n arguments) ≡ true → named_call_lead code frames name arguments ≡ call_lead code frames name n arguments
-call_named code frames name n arguments fine = by (length arguments == n) fine
+    → is_fine (call_lead code frames name n arguments) ≡ true
+    → named_call_lead code frames name (newest_arguments n arguments) ≡ call_lead code frames name n arguments
+call_named code frames name n arguments fine = by (nat_le n (length arguments)) fine
   where
-    by : (enough : Bool) → is_fine (if enough then named_call_lead code frames name arguments else Outcome.undefined) ≡ true
-        → named_call_lead code frames name arguments ≡ (if enough then named_call_lead code frames name arguments else Outcome.undefined)
+    given : List Argument
+    given = newest_arguments n arguments
+
+    by : (enough : Bool) → is_fine (if enough then named_call_lead code frames name given else Outcome.undefined) ≡ true
+        → named_call_lead code frames name given ≡ (if enough then named_call_lead code frames name given else Outcome.undefined)
     by true fine = refl
     by false fine = absurd (false≢true fine)
 
 -- and it is fine without arguments
 pub call_fine : (code : PlainCode) (frames : List Frame) (name : List ℕ) (n : ℕ) (arguments : List Argument)
     → is_fine (call_lead code frames name n arguments) ≡ true → is_fine (named_call_lead code frames name []) ≡ true
-call_fine code frames name n arguments fine = by (length arguments == n) fine
+call_fine code frames name n arguments fine = by (nat_le n (length arguments)) fine
   where
+    given : List Argument
+    given = newest_arguments n arguments
+
     entered : (many : Bool) (entry : HeadingEntry)
         → is_fine (if many then faults FaultKind.CallDepth else Outcome.gives (Lead.enters entry.slot.0 entry.address [])) ≡ true
     entered true entry = refl
     entered false entry = refl
 
-    found : (entry : Option HeadingEntry) → is_fine (then_gives (if_there entry) (enters_lead frames arguments)) ≡ true
+    found : (entry : Option HeadingEntry) → is_fine (then_gives (if_there entry) (enters_lead frames given)) ≡ true
         → is_fine (then_gives (if_there entry) (enters_lead frames [])) ≡ true
     found None fine = fine
     found (Some entry) fine = entered (nat_le most_frames (length frames)) entry
 
-    by : (enough : Bool) → is_fine (if enough then named_call_lead code frames name arguments else Outcome.undefined) ≡ true
+    by : (enough : Bool) → is_fine (if enough then named_call_lead code frames name given else Outcome.undefined) ≡ true
         → is_fine (named_call_lead code frames name []) ≡ true
     by true fine = found (get code.headings name) fine
     by false fine = absurd (false≢true fine)

@@ -1,5 +1,5 @@
 -- What each instruction does, where values are worked on: the table of instructions.
-use Rattle.std.specs.Prelude.{ℕ, ◌+◌, ◌==◌, nat_le, nat_lt, ℤ, pos, negsuc, ◌+ℤ◌, Bool, true, false, if◌then◌else◌, List, [], ◌∷◌, ◌++◌, drop, length, reverse, slice_get, take, Option, Some, None, option_and_then}
+use Rattle.std.specs.Prelude.{ℕ, ◌+◌, ◌-◌, nat_le, nat_lt, ℤ, pos, negsuc, ◌+ℤ◌, Bool, true, false, if◌then◌else◌, List, [], ◌∷◌, ◌++◌, drop, length, reverse, slice_get, take, Option, Some, None, option_and_then}
 use Rattle.std.specs.FinMap.{get}
 use Rattle.std.specs.Option.{option_map_or}
 use Rattle.plcs_base.specs.declared.value.Value.{Value}
@@ -81,6 +81,10 @@ on_newest_number make values = on_newest (λ value rest. on_number (λ z. make z
 -- what is made of so many newest operands, in the order in which they were pushed, and the others
 abbrev pub on_some : {A : Type 0} → ℕ → (List Value → List Value → Outcome A) → List Value → Outcome A
 on_some n make values = if nat_le n (length values) then make (reverse (take n values)) (drop n values) else Outcome.undefined
+
+-- so many newest arguments, in the order in which they were added
+abbrev pub newest_arguments : ℕ → List Argument → List Argument
+newest_arguments n arguments = drop (length arguments - n) arguments
 
 -- whether there is room for one more operand or argument
 abbrev pub has_operand_room : List Value → List Argument → Bool
@@ -174,11 +178,11 @@ enters_lead frames arguments entry =
     if nat_le most_frames (length frames) then faults FaultKind.CallDepth
     else Outcome.gives (Lead.enters entry.slot.0 entry.address arguments)
 
--- the procedure of the name is called, with so many arguments
+-- the procedure of the name is called, with so many newest arguments, if there are as many; the others are left
 abbrev pub call_lead : PlainCode → List Frame → (name : List ℕ) → ℕ → List Argument → Outcome Lead
 call_lead code frames name n arguments =
-    if length arguments == n
-    then then_gives (if_there (get code.headings name)) (enters_lead frames arguments) else Outcome.undefined
+    if nat_le n (length arguments)
+    then then_gives (if_there (get code.headings name)) (enters_lead frames (newest_arguments n arguments)) else Outcome.undefined
 
 -- the newest frame is left, and the run goes on where its caller waits; in main it is over
 abbrev pub leave_lead : PlainCode → List Frame → Outcome Lead

@@ -5,7 +5,7 @@ ghost use Rattle.plcs_code.specs.PlainInstr.{plain_instr};
 ghost use Rattle.plcs_store.specs.declared.argument.Argument.{Argument};
 ghost use Rattle.plcs_store.specs.Outcome.{answer_outcome, found_or_fault};
 ghost use Rattle.plcs_store.specs.Step.{is_over};
-ghost use Rattle.plcs_machine.specs.Lead.{add_lead, builtin_lead, for_enter_lead, for_next_lead, get_lead, lead, leave_lead, load_lead, push_lead, reference_lead, store_lead};
+ghost use Rattle.plcs_machine.specs.Lead.{add_lead, builtin_lead, for_enter_lead, for_next_lead, get_lead, lead, leave_lead, load_lead, newest_arguments, push_lead, reference_lead, store_lead};
 ghost use Rattle.plcs_machine.specs.Reached.{reached};
 ghost use Rattle.plcs_machine.specs.Private.InstructionLead.{computed_lead, dummy_lead, entry_lead, get_at_lead, infix_lead, iterate_lead, jump_false_lead, load_at_lead, named_call_lead, prefix_lead, read_lead, reference_at_lead, store_at_lead, store_newest_lead, sum_lead};
 ghost use Rattle.plcs_machine.specs.Private.PlainLed.{IsNeither, TakesAtMost, is_defined, is_fine, plain_doing, plain_led};
@@ -16,7 +16,7 @@ use crate::led::{Doing, Led};
 use crate::operators::{fixed_value, infix_value, prefix_value};
 use crate::step_act::StepAct;
 use plcs_base::{Name, Slot, TextValue, Value, Work};
-use plcs_code::{CodeView, Instr};
+use plcs_code::{CodeView, HeadingEntry, Instr};
 use plcs_grammar::{Builtin, InfixOp, PrefixOp};
 use plcs_store::{
     Argument, FaultKind, Frames, ItemFault, KeptLoop, Location, MOST_FRAMES, Operands, Reason,
@@ -85,7 +85,7 @@ fn lead_of<W: Work, C: CodeView<W>>(
         Instr::Ref(name) => refer(frames, operands, next, name, None),
         Instr::RefAt(name) => refer_at(frames, operands, next, name),
         Instr::Dummy => add_dummy(operands, next),
-        Instr::Call(name, _count) => call(code, frames, name),
+        Instr::Call(name, count) => call(code, frames, name, *count),
         Instr::Leave => leave(code, frames),
         _ => unreachable!(),
     }
@@ -529,11 +529,12 @@ fn iterate_to(
 
 // ---- calls
 
-/// What the instruction does that calls the procedure of the name, unless too many frames stand.
-fn call<W: Work, C: CodeView<W>>(code: &C, frames: &Frames, name: &Name) -> Led
+/// What the instruction does that calls the procedure of the name with so many newest arguments, unless too many
+/// frames stand.
+fn call<W: Work, C: CodeView<W>>(code: &C, frames: &Frames, name: &Name, count: u32) -> Led
     requires fine { is_fine (named_call_lead (C.code code.now) frames.now name.now []) ≡ true }
     ensures { (values : List Value) (arguments : List Argument) → plain_led result values arguments
-        ≡ named_call_lead (C.code code.now) frames.now name.now arguments }
+        ≡ named_call_lead (C.code code.now) frames.now name.now (newest_arguments count arguments) }
 {
     let Some(address) = code.entry(name) else {
         unreachable!()
@@ -544,7 +545,7 @@ fn call<W: Work, C: CodeView<W>>(code: &C, frames: &Frames, name: &Name) -> Led
     if frames.count() >= MOST_FRAMES {
         return Led::Stops(Reason::Fault(FaultKind::CallDepth));
     }
-    Led::Enters(slot, address)
+    Led::Enters(HeadingEntry { address, slot }, count)
 }
 
 /// What the instruction does that leaves the newest frame; in main it ends the run.

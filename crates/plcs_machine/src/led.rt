@@ -3,7 +3,8 @@ ghost use Rattle.std.specs.Prelude.{◌≡◌};
 ghost use Rattle.plcs_machine.specs.Private.PlainLed.{going_to};
 
 use crate::step_act::StepAct;
-use plcs_base::{Place, Slot, Value};
+use plcs_base::{Place, Value};
+use plcs_code::HeadingEntry;
 use plcs_store::{Location, Reason};
 
 /// What an instruction leads to: it writes, reads, or something else.
@@ -24,8 +25,8 @@ pub(crate) enum Led {
     GoesOn(u32),
     /// This act is done, and the run goes on at this address.
     Acts(StepAct, u32),
-    /// The procedure in this slot is called, which is entered at this address.
-    Enters(Slot, u32),
+    /// The procedure of this heading is called, with so many newest arguments.
+    Enters(HeadingEntry, u32),
     /// The step ends at this place.
     Arrives(Place),
     /// The run is over.

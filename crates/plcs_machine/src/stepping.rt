@@ -5,6 +5,7 @@ ghost use Rattle.plcs_store.specs.Configuration.{plain_configuration, plain_plac
 ghost use Rattle.plcs_store.specs.Limit.{most_frames, most_output};
 ghost use Rattle.plcs_machine.specs.Exec.{Exec};
 ghost use Rattle.plcs_machine.specs.Fetched.{FetchesAtMost, FetchesBy, fetches_of, result_of};
+ghost use Rattle.plcs_machine.specs.Lead.{newest_arguments};
 ghost use Rattle.plcs_machine.specs.StepMade.{MakesFrame, NothingChanges, StepChanges, step_answered};
 ghost use Rattle.plcs_machine.specs.Private.DoableLead.{IsDoable};
 ghost use Rattle.plcs_machine.specs.Private.PlainLed.{TakesAtMost, plain_led};
@@ -16,10 +17,10 @@ use crate::lead::lead;
 use crate::led::{Doing, Led, Walked, next_address};
 use crate::step_answer::StepAnswer;
 use crate::walk_end::WalkEnd;
-use plcs_base::{OutOfMemory, Place, Point, Slot, Value, Work};
-use plcs_code::CodeView;
+use plcs_base::{OutOfMemory, Place, Point, Value, Work};
+use plcs_code::{CodeView, HeadingEntry};
 use plcs_store::{
-    Cells, FaultKind, Frame, Location, Loops, Reason, RunState, Undo, steps_taken_back,
+    Argument, Cells, FaultKind, Frame, Location, Loops, Reason, RunState, Undo, steps_taken_back,
     written_stands,
 };
 use std::alloc::Global;
@@ -295,7 +296,7 @@ fn follow<W: Work, C: CodeView<W>>(
             state.frames.set_place(landed);
             Ok(StepAnswer::Stepped)
         }
-        Led::Enters(slot, address) => enter(alloc, code, slot, address, end, state, undo, work),
+        Led::Enters(entry, count) => enter(alloc, code, entry, count, end, state, undo, work),
         Led::Arrives(landed) => {
             state.frames.set_place(landed);
             *undo = Undo::Moved(end.from);
@@ -306,13 +307,13 @@ fn follow<W: Work, C: CodeView<W>>(
     }
 }
 
-/// Ends a step that calls: makes the frame of the procedure in a slot, which is entered at an address, and goes
-/// to its first place.
+/// Ends a step that calls: makes the frame of a procedure, which takes so many newest arguments, and goes to its
+/// first place.
 fn enter<W: Work, C: CodeView<W>>(
     alloc: Global,
     code: &C,
-    procedure: Slot,
-    address: u32,
+    entry: HeadingEntry,
+    count: u32,
     end: WalkEnd,
     state: &mut RunState,
     undo: &mut Undo,
@@ -321,35 +322,51 @@ fn enter<W: Work, C: CodeView<W>>(
     requires short { length (C.code code.now).instrs ≤ 4294967295 }
     requires at { top_place state.old.frames ≡ Some (plain_place end.from) }
     requires room { length state.old.frames < most_frames }
-    requires answered { IsSome (called_answer (C.code code.now) state.old end.left address procedure.0) }
+    requires answered { IsSome (called_answer (C.code code.now) state.old end.left entry count) }
     ensures done { IfOk result (λ answer.
-        IsDone (called_answer (C.code code.now) state.old end.left address procedure.0) answer
+        IsDone (called_answer (C.code code.now) state.old end.left entry count) answer
         state.old state.new undo.old undo.new) }
     ensures counted { OnOk result
-        (FetchesBy (more_fetches (called_answer (C.code code.now) state.old end.left address procedure.0))
+        (FetchesBy (more_fetches (called_answer (C.code code.now) state.old end.left entry count))
         (W.counts work.old) (W.counts work.new)) }
     ensures counts { FetchesAtMost
-        (more_fetches (called_answer (C.code code.now) state.old end.left address procedure.0))
+        (more_fetches (called_answer (C.code code.now) state.old end.left entry count))
         (W.counts work.old) (W.counts work.new) }
     ensures refused { OnErr result (IsStateKept state.old state.new undo.old undo.new) }
     ensures memory { OnErr result
-        (MakesFrame (called_answer (C.code code.now) state.old end.left address procedure.0)
+        (MakesFrame (called_answer (C.code code.now) state.old end.left entry count)
         (plain_configuration state.old)) }
 {
     let loops = Loops::new(alloc)?;
     let mut cells = Cells::new(alloc);
-    let arguments = state.operands.arguments.as_slice();
-    let first = first_place_in(alloc, code, end.left, address, arguments, &mut cells, work)?;
+    let added = state.operands.arguments.as_slice();
+    let arguments = newest_of(added, count);
+    let first = first_place_in(
+        alloc,
+        code,
+        end.left,
+        entry.address,
+        arguments,
+        &mut cells,
+        work,
+    )?;
     state.frames.set_place(Place {
         slot: end.from.slot,
         point: Point(1),
     });
     state.frames.push(Frame {
-        procedure,
+        procedure: entry.slot,
         place: first,
         cells,
         loops,
     });
     *undo = Undo::Called(end.from);
     Ok(StepAnswer::Stepped)
+}
+
+/// The newest of the arguments, so many of them or all, in the order in which they were added.
+fn newest_of(arguments: &[Argument], count: u32) -> &[Argument]
+    ensures { result.now ≡ newest_arguments count arguments.now }
+{
+    &arguments[arguments.len().saturating_sub(count as usize)..]
 }

@@ -1,13 +1,15 @@
 -- Steps that aren't defined, since an instruction lacks what it needs, and those that are just within it.
-use Rattle.std.specs.Prelude.{refl, ℕ, pos, negsuc, true, List, [], ◌∷◌, ◌++◌, codes, replicate, Option, Some, None}
-use Rattle.std.specs.FinMap.{gets}
+use Rattle.std.specs.Prelude.{◌≡◌, refl, ℕ, ◌+◌, pos, negsuc, true, List, [], ◌∷◌, ◌++◌, codes, length, replicate, Option, Some, None}
+use Rattle.std.specs.FinMap.{from_entries, gets}
 use Rattle.plcs_base.specs.declared.declared.ItemType.{ItemType}
 use Rattle.plcs_grammar.specs.declared.operator.InfixOp.{InfixOp}
 use Rattle.plcs_grammar.specs.declared.operator.PrefixOp.{PrefixOp}
+use Rattle.plcs_code.specs.Gen.{PlainCode}
 use Rattle.plcs_code.specs.PlainInstr.{PlainInstr}
 use Rattle.plcs_store.specs.declared.cell.Cell.{Cell}
 use Rattle.plcs_store.specs.declared.cell.Location.{Location}
 use Rattle.plcs_store.specs.declared.frame.Frame.{Frame}
+use Rattle.plcs_store.specs.CellAt.{Variables}
 use Rattle.plcs_store.specs.NewFrame.{new_frame}
 use Rattle.template_tree.specs.Positions.Place.{place_at}
 use Rattle.plcs_machine.specs.Enter.{Enter}
@@ -66,6 +68,61 @@ names = refl
 
 unknown_call : Rows ((main_by (PlainInstr.call (codes "p") 0 ∷ []), None) ∷ [])
 unknown_call = simp gets
+
+-- ---- calls
+
+-- code whose step from (2, 0) has these instructions, and where p, in slot 3, begins behind the end of main with these
+abbrev calling_by : (instrs of_p : List PlainInstr) → PlainCode
+calling_by instrs of_p =
+    record (stepping_by (instrs ++ (main_ends ++ (of_p ++ (at 3 1 ∷ (PlainInstr.leave ∷ [])))))) {
+      headings = from_entries ((codes "p", record { address = length instrs + 3; slot = record { 0 = 3 } }) ∷ []);
+    }
+
+-- a step of main without variables, by these instructions and then a call of p with so many arguments, where p has these
+-- parameters
+abbrev call_by : (instrs : List PlainInstr) → (n : ℕ) → (parameters : List PlainInstr) → Option FetchedAnswer
+call_by instrs n parameters =
+    run_behind (calling_by (instrs ++ (PlainInstr.call (codes "p") n ∷ [])) parameters) [] (main_with (place_at 2 0) []) 0
+
+-- a number added as an argument
+abbrev adding : ℕ → List PlainInstr
+adding n = push n ∷ (PlainInstr.dummy ∷ [])
+
+-- a parameter for a number
+abbrev number_for : List ℕ → PlainInstr
+number_for name = PlainInstr.parameter name ItemType.Fixed
+
+-- the step ends in p, whose frame has these variables
+abbrev to_p : Variables → ℕ → Option FetchedAnswer
+to_p variables n = stepped (with_frames (new_frame 0 (place_at 2 1) [] ∷ (new_frame 3 (place_at 3 1) variables ∷ []))) n
+
+-- the arguments that a call takes have to be there
+calls_with_fewer : Rows
+    ((call_by [] 1 (number_for (codes "a") ∷ []), None)
+    ∷ ((call_by (adding 7) 2 (number_for (codes "a") ∷ (number_for (codes "b") ∷ [])), None) ∷ []))
+calls_with_fewer = refl
+
+call_with_one : call_by (adding 7) 1 (number_for (codes "a") ∷ []) ≡ to_p (number_in (codes "a") (holding 7) ∷ []) 5
+call_with_one = simp gets
+
+-- where there are more, it takes the newest, in the order in which they were added
+call_with_one_more : call_by (adding 7 ++ adding 8) 1 (number_for (codes "a") ∷ []) ≡ to_p (number_in (codes "a") (holding 8) ∷ []) 7
+call_with_one_more = simp gets
+
+call_with_three :
+    call_by (adding 7 ++ (adding 8 ++ adding 9)) 2 (number_for (codes "a") ∷ (number_for (codes "b") ∷ []))
+    ≡ to_p (number_in (codes "a") (holding 8) ∷ (number_in (codes "b") (holding 9) ∷ [])) 10
+call_with_three = simp gets
+
+call_with_none_taken : call_by (adding 7) 0 [] ≡ to_p [] 4
+call_with_none_taken = simp gets
+
+-- the procedure takes none beyond those of its call, and may leave some
+parameter_beyond : call_by (adding 7 ++ adding 8) 1 (number_for (codes "a") ∷ (number_for (codes "b") ∷ [])) ≡ None
+parameter_beyond = simp gets
+
+arguments_left : call_by (adding 7 ++ adding 8) 2 (number_for (codes "a") ∷ []) ≡ to_p (number_in (codes "a") (holding 7) ∷ []) 7
+arguments_left = simp gets
 
 -- ---- references
 

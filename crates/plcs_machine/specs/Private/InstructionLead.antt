@@ -87,6 +87,6 @@ iterate_lead frames next number kept location z d =
 
 -- ---- calls
 
--- a single instruction: the procedure of the name is called, however many arguments there are
+-- a single instruction: the procedure of the name is called, with these arguments
 abbrev pub named_call_lead : PlainCode → List Frame → (name : List ℕ) → List Argument → Outcome Lead
 named_call_lead code frames name arguments = then_gives (if_there (get code.headings name)) (enters_lead frames arguments)

@@ -10,7 +10,7 @@ use Rattle.plcs_store.specs.Outcome.{Outcome}
 use Rattle.plcs_machine.specs.declared.led.Doing.{Doing}
 use Rattle.plcs_machine.specs.declared.led.Led.{Led}
 use Rattle.plcs_machine.specs.declared.step_act.StepAct.{StepAct}
-use Rattle.plcs_machine.specs.Lead.{Lead, jump_target, put_lead}
+use Rattle.plcs_machine.specs.Lead.{Lead, jump_target, newest_arguments, put_lead}
 
 -- whether a number is small enough for an address, which the code tells of an instruction
 abbrev pub is_address : ℕ → Bool
@@ -51,7 +51,8 @@ plain_act StepAct.Leave = Act.leave
 abbrev pub plain_led : Led → List Value → List Argument → Outcome Lead
 plain_led (Led.GoesOn address) values arguments = Outcome.gives (Lead.goes_on address values arguments)
 plain_led (Led.Acts act address) values arguments = Outcome.gives (Lead.acts (plain_act act) address)
-plain_led (Led.Enters slot address) values arguments = Outcome.gives (Lead.enters slot.0 address arguments)
+plain_led (Led.Enters entry count) values arguments =
+    Outcome.gives (Lead.enters entry.slot.0 entry.address (newest_arguments count arguments))
 plain_led (Led.Arrives place) values arguments = Outcome.gives (Lead.arrives (plain_place place))
 plain_led Led.Ends values arguments = Outcome.gives Lead.ends
 plain_led (Led.Stops reason) values arguments = Outcome.stops reason
@@ -68,7 +69,7 @@ going_to (Doing.Writes skip count) = None
 going_to (Doing.Reads location value count) = None
 going_to (Doing.Leads (Led.GoesOn address)) = Some address
 going_to (Doing.Leads (Led.Acts act address)) = None
-going_to (Doing.Leads (Led.Enters slot address)) = None
+going_to (Doing.Leads (Led.Enters entry count)) = None
 going_to (Doing.Leads (Led.Arrives place)) = None
 going_to (Doing.Leads Led.Ends) = None
 going_to (Doing.Leads (Led.Stops reason)) = None

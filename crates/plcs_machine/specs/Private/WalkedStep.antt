@@ -3,6 +3,7 @@ use Rattle.std.specs.Prelude.{◌≡◌, ℕ, ◌+◌, ◌-◌, ◌≤◌, Bool,
 use Rattle.std.specs.FinMap.{get}
 use Rattle.plcs_base.specs.declared.place.Place.{Place}
 use Rattle.plcs_base.specs.declared.value.Value.{Value}
+use Rattle.plcs_code.specs.declared.heading_entry.HeadingEntry.{HeadingEntry}
 use Rattle.plcs_code.specs.Gen.{PlainCode}
 use Rattle.plcs_store.specs.declared.argument.Argument.{Argument}
 use Rattle.plcs_store.specs.declared.cell.Location.{Location}
@@ -18,7 +19,7 @@ use Rattle.plcs_machine.specs.declared.led.Led.{Led}
 use Rattle.plcs_machine.specs.declared.led.Walked.{Walked}
 use Rattle.plcs_machine.specs.Exec.{FetchedAnswer, outcome_answer, run_from}
 use Rattle.plcs_machine.specs.Fetched.{fetches_of, result_of}
-use Rattle.plcs_machine.specs.Lead.{Lead, put_lead}
+use Rattle.plcs_machine.specs.Lead.{Lead, newest_arguments, put_lead}
 use Rattle.plcs_machine.specs.Passing.{settle}
 use Rattle.plcs_machine.specs.StepMade.{DoesAct, NothingChanges, step_answered}
 use Rattle.plcs_machine.specs.Private.CountedSteps.{behind_many}
@@ -81,10 +82,11 @@ abbrev pub led_answer : PlainCode → RunState → (left : ℕ) → Led → Opti
 led_answer code state left led =
     ending_answer code (plain_configuration state) left (plain_led led state.operands.values state.operands.arguments)
 
--- the answer of a walked step behind an instruction that calls the procedure in a slot, which is entered at the address
-abbrev pub called_answer : PlainCode → RunState → (left address slot : ℕ) → Option FetchedAnswer
-called_answer code state left address slot =
-    ending_answer code (plain_configuration state) left (Outcome.gives (Lead.enters slot address state.operands.arguments))
+-- the answer of a walked step behind an instruction that calls a procedure with so many newest arguments
+abbrev pub called_answer : PlainCode → RunState → (left : ℕ) → HeadingEntry → (count : ℕ) → Option FetchedAnswer
+called_answer code state left entry count =
+    ending_answer code (plain_configuration state) left
+    (Outcome.gives (Lead.enters entry.slot.0 entry.address (newest_arguments count state.operands.arguments)))
 
 -- of a step whose instructions are run, how many fetches are wanted beside that of the instruction at hand
 abbrev pub more_fetches : Option FetchedAnswer → ℕ

@@ -1,4 +1,4 @@
--- The table tests how many arguments a call has; what is called is found by the name alone. A loop is entered by numbers that fit.
+-- The table tests whether a call has its arguments; what is called is found by the name alone. A loop is entered by numbers that fit.
 use Rattle.std.proofs.Common.{◌≡◌, ◌∙◌, [], ℤ, rules, sym, ap, subst}
 use Rattle.std.proofs.lemmas.Int.{to_z-of_z}
 use mir.Syntax.{w32}
@@ -18,7 +18,7 @@ call-requires g c =
     let operands = c.args.operands.now in
     let fine = subst (λ (instr : Instr). is_fine (lead code frames [] [] c.args.next operands.values operands.arguments (plain_instr instr)) ≡ true)
     c.in-Call.is c.requires.fine in
-    record { fine = call_fine code frames c.in-Call.name c.in-Call._count operands.arguments fine }
+    record { fine = call_fine code frames c.in-Call.name c.in-Call.count operands.arguments fine }
 
 pub returns-in-Call : goal.returns-in-Call
 returns-in-Call g c =
@@ -28,7 +28,7 @@ returns-in-Call g c =
     let fine = subst (λ (instr : Instr). is_fine (lead code frames [] [] c.args.next operands.values operands.arguments (plain_instr instr)) ≡ true)
     c.in-Call.is c.requires.fine in
     c.call.ensures operands.values operands.arguments
-    ∙ call_named code frames c.in-Call.name c.in-Call._count operands.arguments fine
+    ∙ call_named code frames c.in-Call.name c.in-Call.count operands.arguments fine
     ∙ ap (λ (instr : Instr). lead code frames [] [] c.args.next operands.values operands.arguments (plain_instr instr)) (sym c.in-Call.is)
 
 pub enter_loop-requires : goal.enter_loop-requires

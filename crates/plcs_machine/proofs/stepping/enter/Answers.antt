@@ -1,4 +1,4 @@
--- The frame that is made is that of the call, for these arguments and with no cells yet, and its caller waits.
+-- The frame that is made is that of the call, for the newest arguments and with no cells yet, and its caller waits.
 use Rattle.std.proofs.Common.{ℕ, ◌≡◌, ◌∙◌, ◌++◌, ◌∷◌, [], List, refl, sym, ap, arith, subst}
 use Rattle.std.specs.Prelude.{Result, Ok, Err, OnErr, Some, IsSome, length}
 use Rattle.plcs_base.specs.declared.place.Place.{Place}
@@ -9,6 +9,7 @@ use Rattle.plcs_store.specs.CellAt.{Variables, newest}
 use Rattle.plcs_store.specs.Configuration.{PlainConfiguration, frame_at, plain_configuration, plain_place}
 use Rattle.plcs_store.specs.NewFrame.{new_frame}
 use Rattle.plcs_machine.specs.Fetched.{FetchesAtMost, FetchesBy, fetches_of, result_of}
+use Rattle.plcs_machine.specs.Lead.{newest_arguments}
 use Rattle.plcs_machine.specs.Passing.{Making, settle}
 use Rattle.plcs_machine.specs.Private.MakingFrame.{making_of}
 use Rattle.plcs_machine.specs.Private.WalkedStep.{called_answer, more_fetches}
@@ -17,9 +18,12 @@ use Rattle.plcs_machine.proofs.CountedFetches.{fetches_few}
 use Rattle.plcs_machine.proofs.NotedActs.{changed_length, some_frame}
 use Rattle.plcs_machine.proofs.stepping.enter.Goals as goal
 
--- no cells, and these arguments
-begun : (cells : Variables) (given arguments : List Argument) → cells ≡ [] → given ≡ arguments → making_of cells given ≡ making_of [] arguments
-begun cells given arguments none same = ap (λ (some : Variables). making_of some given) none ∙ ap (making_of []) same
+-- no cells, and the newest of these arguments
+begun : (cells : Variables) (count : ℕ) (given added arguments : List Argument) → cells ≡ [] → given ≡ newest_arguments count added → added ≡ arguments
+    → making_of cells given ≡ making_of [] (newest_arguments count arguments)
+begun cells count given added arguments none taken same =
+    ap (λ (some : Variables). making_of some given) none
+    ∙ ap (making_of []) (taken ∙ ap (newest_arguments count) same)
 
 -- what is so anyway is so at a fault
 at_fault : {T E P : Type 0} (r : Result T E) → P → OnErr r P
@@ -32,10 +36,14 @@ first_place_in-requires g c =
     let state = c.args.state.now in
     let before = plain_configuration state in
     let left = c.args.end.left in
-    let address = c.args.address in
-    let slot = c.args.procedure.0 in
-    let arguments = state.operands.arguments in
-    let making = begun c.new-cells.result c.as_slice-arguments.result.now arguments c.new-cells.ensures c.as_slice-arguments.ensures in
+    let entry = c.args.entry in
+    let count = c.args.count in
+    let address = entry.address in
+    let slot = entry.slot.0 in
+    let arguments = newest_arguments count state.operands.arguments in
+    let making =
+    begun c.new-cells.result count c.newest_of-arguments.result.now c.as_slice-added.result.now state.operands.arguments c.new-cells.ensures
+    c.newest_of-arguments.ensures c.as_slice-added.ensures in
     let whole = call_settles code before left slot address arguments c.requires.answered in
     let settles =
     subst (λ (making : Making). IsSome (settle state.frames code.instrs left address (Some making))) (sym making) whole in
@@ -47,9 +55,11 @@ returns-in_err-loops-clause-memory g c =
     let state = c.args.state.now in
     let before = plain_configuration state in
     let left = c.args.end.left in
-    let address = c.args.address in
-    let slot = c.args.procedure.0 in
-    let arguments = state.operands.arguments in
+    let entry = c.args.entry in
+    let count = c.args.count in
+    let address = entry.address in
+    let slot = entry.slot.0 in
+    let arguments = newest_arguments count state.operands.arguments in
     at_fault c.from_residual.result (call_makes code before left slot address arguments c.requires.answered)
 
 pub returns-in_err-first-clause-memory : goal.returns-in_err-first-clause-memory
@@ -58,9 +68,11 @@ returns-in_err-first-clause-memory g c =
     let state = c.args.state.now in
     let before = plain_configuration state in
     let left = c.args.end.left in
-    let address = c.args.address in
-    let slot = c.args.procedure.0 in
-    let arguments = state.operands.arguments in
+    let entry = c.args.entry in
+    let count = c.args.count in
+    let address = entry.address in
+    let slot = entry.slot.0 in
+    let arguments = newest_arguments count state.operands.arguments in
     at_fault c.from_residual-in_err-first.result (call_makes code before left slot address arguments c.requires.answered)
 
 pub returns-in_err-loops-clause-counts : goal.returns-in_err-loops-clause-counts
@@ -69,10 +81,12 @@ returns-in_err-loops-clause-counts g c =
     let state = c.args.state.now in
     let before = plain_configuration state in
     let left = c.args.end.left in
-    let address = c.args.address in
-    let slot = c.args.procedure.0 in
-    let arguments = state.operands.arguments in
-    fetches_few (more_fetches (called_answer code state left address slot)) (g.W.Work.counts c.args.work.now)
+    let entry = c.args.entry in
+    let count = c.args.count in
+    let address = entry.address in
+    let slot = entry.slot.0 in
+    let arguments = newest_arguments count state.operands.arguments in
+    fetches_few (more_fetches (called_answer code state left entry count)) (g.W.Work.counts c.args.work.now)
 
 pub returns-in_err-first-clause-counts : goal.returns-in_err-first-clause-counts
 returns-in_err-first-clause-counts g c =
@@ -80,16 +94,20 @@ returns-in_err-first-clause-counts g c =
     let state = c.args.state.now in
     let before = plain_configuration state in
     let left = c.args.end.left in
-    let address = c.args.address in
-    let slot = c.args.procedure.0 in
-    let arguments = state.operands.arguments in
-    let making = begun c.new-cells.result c.as_slice-arguments.result.now arguments c.new-cells.ensures c.as_slice-arguments.ensures in
+    let entry = c.args.entry in
+    let count = c.args.count in
+    let address = entry.address in
+    let slot = entry.slot.0 in
+    let arguments = newest_arguments count state.operands.arguments in
+    let making =
+    begun c.new-cells.result count c.newest_of-arguments.result.now c.as_slice-added.result.now state.operands.arguments c.new-cells.ensures
+    c.newest_of-arguments.ensures c.as_slice-added.ensures in
     let whole = call_settles code before left slot address arguments c.requires.answered in
     let settles =
     subst (λ (making : Making). IsSome (settle state.frames code.instrs left address (Some making))) (sym making) whole in
     let counts = g.W.Work.counts in
-    let same : fetches_of (settle state.frames code.instrs left address (Some (making_of c.new-cells.result c.as_slice-arguments.result.now)))
-    ≡ more_fetches (called_answer code state left address slot) =
+    let same : fetches_of (settle state.frames code.instrs left address (Some (making_of c.new-cells.result c.newest_of-arguments.result.now)))
+    ≡ more_fetches (called_answer code state left entry count) =
     ap (λ (making : Making). fetches_of (settle state.frames code.instrs left address (Some making))) making
     ∙ call_fetches code before left slot address arguments c.requires.answered in
     subst (λ (n : ℕ). FetchesAtMost n (counts c.args.work.now) (counts c.first_place_in.new.work)) same
@@ -101,16 +119,20 @@ returns-clause-counts g c =
     let state = c.args.state.now in
     let before = plain_configuration state in
     let left = c.args.end.left in
-    let address = c.args.address in
-    let slot = c.args.procedure.0 in
-    let arguments = state.operands.arguments in
-    let making = begun c.new-cells.result c.as_slice-arguments.result.now arguments c.new-cells.ensures c.as_slice-arguments.ensures in
+    let entry = c.args.entry in
+    let count = c.args.count in
+    let address = entry.address in
+    let slot = entry.slot.0 in
+    let arguments = newest_arguments count state.operands.arguments in
+    let making =
+    begun c.new-cells.result count c.newest_of-arguments.result.now c.as_slice-added.result.now state.operands.arguments c.new-cells.ensures
+    c.newest_of-arguments.ensures c.as_slice-added.ensures in
     let whole = call_settles code before left slot address arguments c.requires.answered in
     let settles =
     subst (λ (making : Making). IsSome (settle state.frames code.instrs left address (Some making))) (sym making) whole in
     let counts = g.W.Work.counts in
-    let same : fetches_of (settle state.frames code.instrs left address (Some (making_of c.new-cells.result c.as_slice-arguments.result.now)))
-    ≡ more_fetches (called_answer code state left address slot) =
+    let same : fetches_of (settle state.frames code.instrs left address (Some (making_of c.new-cells.result c.newest_of-arguments.result.now)))
+    ≡ more_fetches (called_answer code state left entry count) =
     ap (λ (making : Making). fetches_of (settle state.frames code.instrs left address (Some making))) making
     ∙ call_fetches code before left slot address arguments c.requires.answered in
     subst (λ (n : ℕ). FetchesAtMost n (counts c.args.work.now) (counts c.first_place_in.new.work)) same
@@ -122,16 +144,20 @@ returns-clause-counted g c =
     let state = c.args.state.now in
     let before = plain_configuration state in
     let left = c.args.end.left in
-    let address = c.args.address in
-    let slot = c.args.procedure.0 in
-    let arguments = state.operands.arguments in
-    let making = begun c.new-cells.result c.as_slice-arguments.result.now arguments c.new-cells.ensures c.as_slice-arguments.ensures in
+    let entry = c.args.entry in
+    let count = c.args.count in
+    let address = entry.address in
+    let slot = entry.slot.0 in
+    let arguments = newest_arguments count state.operands.arguments in
+    let making =
+    begun c.new-cells.result count c.newest_of-arguments.result.now c.as_slice-added.result.now state.operands.arguments c.new-cells.ensures
+    c.newest_of-arguments.ensures c.as_slice-added.ensures in
     let whole = call_settles code before left slot address arguments c.requires.answered in
     let settles =
     subst (λ (making : Making). IsSome (settle state.frames code.instrs left address (Some making))) (sym making) whole in
     let counts = g.W.Work.counts in
-    let same : fetches_of (settle state.frames code.instrs left address (Some (making_of c.new-cells.result c.as_slice-arguments.result.now)))
-    ≡ more_fetches (called_answer code state left address slot) =
+    let same : fetches_of (settle state.frames code.instrs left address (Some (making_of c.new-cells.result c.newest_of-arguments.result.now)))
+    ≡ more_fetches (called_answer code state left entry count) =
     ap (λ (making : Making). fetches_of (settle state.frames code.instrs left address (Some making))) making
     ∙ call_fetches code before left slot address arguments c.requires.answered in
     subst (λ (n : ℕ). FetchesBy n (counts c.args.work.now) (counts c.first_place_in.new.work)) same
@@ -143,9 +169,11 @@ set_place-requires g c =
     let state = c.args.state.now in
     let before = plain_configuration state in
     let left = c.args.end.left in
-    let address = c.args.address in
-    let slot = c.args.procedure.0 in
-    let arguments = state.operands.arguments in
+    let entry = c.args.entry in
+    let count = c.args.count in
+    let address = entry.address in
+    let slot = entry.slot.0 in
+    let arguments = newest_arguments count state.operands.arguments in
     record { some = some_frame state.frames (plain_place c.args.end.from) c.requires.at }
 
 pub push-requires : goal.push-requires
@@ -154,9 +182,11 @@ push-requires g c =
     let state = c.args.state.now in
     let before = plain_configuration state in
     let left = c.args.end.left in
-    let address = c.args.address in
-    let slot = c.args.procedure.0 in
-    let arguments = state.operands.arguments in
+    let entry = c.args.entry in
+    let count = c.args.count in
+    let address = entry.address in
+    let slot = entry.slot.0 in
+    let arguments = newest_arguments count state.operands.arguments in
     let long : length c.set_place.new.self ≡ length state.frames =
     ap (λ (frames : List Frame). length frames) c.set_place.ensures
     ∙ changed_length (newest state.frames) (frame_at (plain_place record { slot = c.args.end.from.slot; point = record { 0 = 1 } })) state.frames in
@@ -169,10 +199,14 @@ returns-clause-done g c =
     let state = c.args.state.now in
     let before = plain_configuration state in
     let left = c.args.end.left in
-    let address = c.args.address in
-    let slot = c.args.procedure.0 in
-    let arguments = state.operands.arguments in
-    let making = begun c.new-cells.result c.as_slice-arguments.result.now arguments c.new-cells.ensures c.as_slice-arguments.ensures in
+    let entry = c.args.entry in
+    let count = c.args.count in
+    let address = entry.address in
+    let slot = entry.slot.0 in
+    let arguments = newest_arguments count state.operands.arguments in
+    let making =
+    begun c.new-cells.result count c.newest_of-arguments.result.now c.as_slice-added.result.now state.operands.arguments c.new-cells.ensures
+    c.newest_of-arguments.ensures c.as_slice-added.ensures in
     let whole = call_settles code before left slot address arguments c.requires.answered in
     let settles =
     subst (λ (making : Making). IsSome (settle state.frames code.instrs left address (Some making))) (sym making) whole in
@@ -184,7 +218,7 @@ returns-clause-done g c =
     ∙ c.in_ok-first.ensures.place state.frames settles in
     let made : Frame = new_frame slot (plain_place first) cells in
     let frame : List KeptLoop → Frame =
-    λ loops. record { procedure = c.args.procedure; place = first; cells = cells; loops = loops } in
+    λ loops. record { procedure = entry.slot; place = first; cells = cells; loops = loops } in
     let pushed =
     c.push.ensures
     ∙ ap (λ (loops : List KeptLoop). c.set_place.new.self ++ (frame loops ∷ [])) c.in_ok-loops.ensures
