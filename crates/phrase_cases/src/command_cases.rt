@@ -105,10 +105,7 @@ fn plain_message(name: &[u8], told: &Told) -> Option<Message> {
     if let Some(refusal) = named(told.alloc(), &REFUSALS, name) {
         return Some(Message::Refusal(refusal));
     }
-    if let Some(notice) = named(told.alloc(), &NOTICES, name) {
-        return Some(Message::Notice(notice));
-    }
-    named(told.alloc(), &[Message::NotBuilt], name)
+    Some(Message::Notice(named(told.alloc(), &NOTICES, name)?))
 }
 
 /// The refusal with a number in its message that a case names.

@@ -1,7 +1,7 @@
 -- The messages that answer keys: their kinds and texts.
 use Rattle.std.specs.Prelude.{ℕ, List, ◌∷◌, ◌++◌, codes, decimal, Option, Some, None}
 use Rattle.session_words.specs.declared.message.Message.{Message}
-use Rattle.session_words.specs.declared.message.Message.TheVariants.{Refusal, Notice, NotBuilt}
+use Rattle.session_words.specs.declared.message.Message.TheVariants.{Refusal, Notice}
 use Rattle.session_words.specs.declared.message.RefusalMessage.{RefusalMessage}
 use Rattle.session_words.specs.declared.message.RefusalMessage.TheVariants as refusal
 use Rattle.session_words.specs.declared.message.Notice.{Notice as NoticeKind}
@@ -75,13 +75,11 @@ notice_words notice.TraceOff = codes "TRACE OFF"
 abbrev pub message_words : Message → List ℕ
 message_words (Refusal r) = (refusal_row r).words
 message_words (Notice n) = notice_words n
-message_words NotBuilt = codes "NOT BUILT"
 
 -- the number that stands behind the words of a message, if there is one
 abbrev pub message_value : Message → Option ℕ
 message_value (Refusal r) = (refusal_row r).value
 message_value (Notice n) = None
-message_value NotBuilt = None
 
 -- the words of a message and the number behind a blank, if there is one
 abbrev pub with_value : List ℕ → Option ℕ → List ℕ

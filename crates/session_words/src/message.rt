@@ -11,8 +11,6 @@ pub enum Message {
     Refusal(RefusalMessage),
     /// The key was taken.
     Notice(Notice),
-    /// What the key asks for isn't built yet.
-    NotBuilt,
 }
 
 /// The messages of refusals: why a key was refused. Places are counted from 0, lines from 1, and slots
@@ -130,7 +128,7 @@ impl Message {
         MessageText::new(self.words(), self.value())
     }
 
-    /// The words of any message, a refusal, a notice or that something isn't built.
+    /// The words of any message, a refusal or a notice.
     fn words(self) -> &'static [u8]
         ensures words { result.now ≡ message_words self }
         ensures short { length result.now ≤ 20 }
@@ -138,7 +136,6 @@ impl Message {
         match self {
             Message::Refusal(refusal) => refusal.row().words,
             Message::Notice(notice) => notice.words(),
-            Message::NotBuilt => b"NOT BUILT",
         }
     }
 
@@ -148,7 +145,7 @@ impl Message {
     {
         match self {
             Message::Refusal(refusal) => refusal.row().value,
-            Message::Notice(_) | Message::NotBuilt => None,
+            Message::Notice(_) => None,
         }
     }
 }
