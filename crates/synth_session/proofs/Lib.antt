@@ -2,8 +2,32 @@
 mod Limits
 -- `RefusedKeysChangeTheMessage`: each key in turn
 pub mod RefusedKeys
+-- `RunsHaveOneReply`: one answer to the questions of a resumption
+pub mod OneResumption
+-- `RunningKeysHaveRuns`, `StillKeysFetchNothing`: each key in turn
+pub mod RunningKeys
+-- `RunningKeysFit`: the keys in which a run goes on
+pub mod FittingKeys
+-- `tried`, `counted` and `rested` of try_step and rest: a step of the run that is held
+pub mod TriedSteps
+-- `fits` and `stays_fit` of try_step: a step of a run that fits
+pub mod FittingSteps
+-- `defined`, `same` and `wanted` of steps_are_the_programs: the steps by the code of the program
+pub mod ProgramTicks
+-- `counted` of make_steps and show_step: what is fetched in steps
+pub mod FetchedSteps
+-- `does` of show_step: a step that is shown
+pub mod ShownStep
+-- `does` and `counted` of make_steps: the steps one after the other
+pub mod AllSteps
+-- `TicksKeepProgram`, `ShownTicksGoOn`: the steps of ticks
+pub mod ShownTicks
 -- `TextsHaveOneReply`, `does` of enter_text and `read` of read_phrase: what the parser answers is what the text is
 pub mod StandingTexts
+-- clauses of keep_for_run, edit, cut_out and toggle_comment: what is kept for the run that stands
+pub mod KeptRuns
+-- clauses of edit and cut_out: what comes of an edit that is made or refused, and what is counted then
+pub mod EditOutcomes
 -- `Answers` of toggle_comment: the cursor may stay at a comment that is turned
 pub mod TurnedStops
 -- `sound` of copy_phrase_at: what stands in a part may be inserted
@@ -16,6 +40,26 @@ pub mod ClipFragments
 pub mod TakenNodes
 -- `agrees` of change: the layout where an edit is undone
 pub mod AgreeingDependents
+-- `rows`, `many` and `counted` of fill
+pub mod CodeLines
+-- `span` and `count` of code_span
+pub mod NodeCodes
+-- `text` of fill_row, and `put` of CodeLine
+pub mod CodeRowTexts
+-- `back` of take_back
+pub mod RunsTakenBack
+-- `code` of Dependents::of and toggle_elision: the code that is made of a tree
+pub mod ProgramCodes
+-- `counts` of Dependents::of, of cut and of keys that are refused: what is counted at most
+pub mod CountedPrograms
+-- the run of a session in begin_run, go_back and add_input
+pub mod FittingRuns
+-- the run of a session in go_on, and what is asked of it there; resume and step_on
+pub mod ResumedRuns
+-- `DoesByReply` of keys and commands that ask nothing of the files
+pub mod UnaskedKeys
+-- `counts` of keys in which memory runs out
+pub mod WantedCounts
 -- `DoesByReply` of save and load: what the files did
 pub mod FileReplies
 -- `counts` of Dependents::of: a check for each phrase

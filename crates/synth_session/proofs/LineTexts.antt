@@ -7,13 +7,13 @@ use Rattle.synth_session.specs.declared.typed_line.TheConstants.{LINE_LIMIT}
 use Rattle.synth_session.specs.Private.LineText.{PutsInLine}
 
 -- a front with bytes behind it has the front that the whole has
-take_again : (n : ℕ) (xs ys : List ℕ) → take n (take n xs ++ ys) ≡ take n (xs ++ ys)
+pub take_again : (n : ℕ) (xs ys : List ℕ) → take n (take n xs ++ ys) ≡ take n (xs ++ ys)
 take_again zero xs ys = refl
 take_again (suc n) [] ys = refl
 take_again (suc n) (x ∷ xs) ys = ap (λ l. x ∷ l) (take_again n xs ys)
 
 -- a front is no longer than it may be
-front_short : (n : ℕ) (xs : List ℕ) → length (take n xs) ≤ n
+pub front_short : (n : ℕ) (xs : List ℕ) → length (take n xs) ≤ n
 front_short zero xs = omega arith
 front_short (suc n) [] = omega arith
 front_short (suc n) (x ∷ xs) = let short = front_short n xs in omega (arith, short)

@@ -1,6 +1,6 @@
--- A refused key changes the message alone, and checks nothing: each outcome of a key is either a refusal, which is so by its
+-- A refused key changes the message alone, and counts nothing: each outcome of a key is either a refusal, which is so by its
 -- definition, or its answer is none.
-use Rattle.std.proofs.Common.{◌≡◌, ℕ, ◌-◌, Bool, true, false, if◌then◌else◌, List, [], ◌∷◌, ◌++◌, length, take, Option, Some, None, Ok, Err, refl}
+use Rattle.std.proofs.Common.{◌≡◌, ℕ, ◌+◌, ◌-◌, Bool, true, false, if◌then◌else◌, List, [], ◌∷◌, ◌++◌, length, take, Option, Some, None, Ok, Err, refl}
 use Rattle.std.specs.Prelude.{◌==◌, nat_lt}
 use Rattle.plcs_grammar.specs.Canon.{Canon}
 use Rattle.plcs_grammar.specs.OverLimit.{OverLimit}
@@ -23,6 +23,10 @@ use Rattle.clip_store.specs.PlainFragment.{PlainFragment}
 use Rattle.session_edit.specs.Edited.{Edited, edited}
 use Rattle.session_edit.specs.Here.{category_at, takes_at}
 use Rattle.session_edit.specs.PlainEdit.{PlainEdit}
+use Rattle.file_store.specs.declared.refusal.FileRefusal.{FileRefusal}
+use Rattle.file_store.specs.Limit.{longest_input}
+use Rattle.plcs_store.specs.declared.refusal.ResumeRefusal.{ResumeRefusal}
+use Rattle.plcs_store.specs.Configuration.{PlainConfiguration}
 use Rattle.synth_session.specs.declared.key.Key.{Key}
 use Rattle.synth_session.specs.declared.key.Key.TheVariants.{Char, Enter, Erase, Clear, Tab, Up, Down, Left, Right, Other}
 use Rattle.synth_session.specs.declared.answer.Answer.{Answer}
@@ -30,7 +34,11 @@ use Rattle.synth_session.specs.declared.answer.ClipRefusal.{ClipRefusal}
 use Rattle.synth_session.specs.declared.answer.Refusal.{Refusal}
 use Rattle.synth_session.specs.declared.answer.Refusal.TheVariants as why
 use Rattle.synth_session.specs.declared.typed_line.TheConstants.{LINE_LIMIT}
+use Rattle.synth_session.specs.CodeCommand.{code_outcome}
+use Rattle.synth_session.specs.PlainRun.{PlainRun, is_ended}
 use Rattle.synth_session.specs.PlainSession.{PlainSession}
+use Rattle.synth_session.specs.ProgramCode.{code_at}
+use Rattle.synth_session.specs.RunCommands.{asked_outcome, back_outcome, back_to, from_back, going_outcome, input_outcome, most_steps, resume_outcome, resumption_outcome, step_outcome, with_more_input}
 use Rattle.synth_session.specs.RefusalText.{refusal_text}
 use Rattle.synth_session.specs.KeyOutcome.{KeyOutcome, acceptance_outcome, line_acceptance_outcome, refusal_outcome}
 use Rattle.synth_session.specs.TypedLine.{cursor_phrase, text_typed}
@@ -40,24 +48,27 @@ use Rattle.synth_session.specs.KeyReply.{Reply}
 use Rattle.synth_session.specs.ClipCommands.{copy_outcome, cut_outcome, fragment_inserted, fragment_there, slots_there}
 use Rattle.synth_session.specs.EditCommands.{edit_outcome, edit_refusal, edited_by}
 use Rattle.synth_session.specs.ElideCommand.{comment_toggled, is_at_comment}
-use Rattle.synth_session.specs.EnteredLine.{command_line_outcome, command_outcome, is_unbuilt, line_entered, read_entered, reading_outcome, standing_entered, text_entered}
-use Rattle.synth_session.specs.Press.{RefusedKeysChangeTheMessage, RefusedKeysCheckNothing, key_outcome, press, without_code_display}
+use Rattle.synth_session.specs.EnteredLine.{command_line_outcome, command_outcome, line_entered, read_entered, reading_outcome, standing_entered, text_entered}
+use Rattle.synth_session.specs.Press.{CostsNothing, RefusedKeysChangeTheMessage, RefusedKeysCostNothing, key_outcome, press, without_code_display}
 
--- where this is the outcome of a refused key, the message alone changes, and nothing is checked
+-- where this is the outcome of a refused key, the message alone changes, and nothing is counted
 record Alone (s : PlainSession) (outcome : KeyOutcome) : Type 0 where
   pub alone : (reason : Refusal) → outcome.answer ≡ Answer.Refused reason → outcome.after ≡ record s { message = refusal_text reason }
-  pub unchecked : (reason : Refusal) → outcome.answer ≡ Answer.Refused reason → outcome.checks ≡ 0
+  pub costless : (reason : Refusal) → outcome.answer ≡ Answer.Refused reason → CostsNothing outcome
 
 -- a refusal does
 refused_alone : (s : PlainSession) (reason : Refusal) → Alone s (refusal_outcome s reason)
-refused_alone s reason = record { alone = λ other is. cc; unchecked = λ other is. refl }
+refused_alone s reason = record { alone = λ other is. cc; costless = λ other is. record { checks = refl; emits = refl; fetches = refl } }
 
 -- a key that isn't refused says nothing of that
 taken_alone : (s : PlainSession) (outcome : KeyOutcome) → outcome.answer ≡ Answer.Done → Alone s outcome
-taken_alone s outcome taken = record { alone = λ reason is. absurd (cc); unchecked = λ reason is. absurd (cc) }
+taken_alone s outcome taken = record { alone = λ reason is. absurd (cc); costless = λ reason is. absurd (cc) }
 
 ended_alone : (s : PlainSession) (outcome : KeyOutcome) → outcome.answer ≡ Answer.Quit → Alone s outcome
-ended_alone s outcome ended = record { alone = λ reason is. absurd (cc); unchecked = λ reason is. absurd (cc) }
+ended_alone s outcome ended = record { alone = λ reason is. absurd (cc); costless = λ reason is. absurd (cc) }
+
+running_alone : (s : PlainSession) (outcome : KeyOutcome) → outcome.answer ≡ Answer.Running → Alone s outcome
+running_alone s outcome running = record { alone = λ reason is. absurd (cc); costless = λ reason is. absurd (cc) }
 
 -- of two outcomes either
 either_alone : (s : PlainSession) (test : Bool) (one other : KeyOutcome) → Alone s one → Alone s other → Alone s (if test then one else other)
@@ -131,6 +142,7 @@ turned_alone s =
 save_alone : (s : PlainSession) (reply : Reply) → Alone s (save_outcome s reply)
 save_alone s Reply.NotAsked = taken_alone s _ refl
 save_alone s (Reply.Read standing) = taken_alone s _ refl
+save_alone s (Reply.Resumes refusal) = taken_alone s _ refl
 save_alone s Reply.Saved = taken_alone s _ refl
 save_alone s (Reply.Loaded tree) = taken_alone s _ refl
 save_alone s (Reply.Refused refusal) = refused_alone s (why.File refusal)
@@ -139,9 +151,58 @@ save_alone s (Reply.Refused refusal) = refused_alone s (why.File refusal)
 load_alone : (s : PlainSession) (reply : Reply) → Alone s (load_outcome s reply)
 load_alone s Reply.NotAsked = taken_alone s _ refl
 load_alone s (Reply.Read standing) = taken_alone s _ refl
+load_alone s (Reply.Resumes refusal) = taken_alone s _ refl
 load_alone s Reply.Saved = taken_alone s _ refl
 load_alone s (Reply.Loaded tree) = taken_alone s _ refl
 load_alone s (Reply.Refused refusal) = refused_alone s (why.File refusal)
+
+-- a run that is to go on, by whether it may
+resumption_alone : (s : PlainSession) (steps : ℕ) (run : PlainRun) (refusal : Option ResumeRefusal) → Alone s (resumption_outcome s steps run refusal)
+resumption_alone s steps run None = running_alone s _ refl
+resumption_alone s steps run (Some refusal) = refused_alone s (why.Resume refusal)
+
+asked_alone : (s : PlainSession) (steps : ℕ) (run : PlainRun) (reply : Reply) → Alone s (asked_outcome s steps run reply)
+asked_alone s steps run Reply.NotAsked = taken_alone s _ refl
+asked_alone s steps run (Reply.Read standing) = taken_alone s _ refl
+asked_alone s steps run (Reply.Resumes refusal) = resumption_alone s steps run refusal
+asked_alone s steps run Reply.Saved = taken_alone s _ refl
+asked_alone s steps run (Reply.Loaded tree) = taken_alone s _ refl
+asked_alone s steps run (Reply.Refused refusal) = taken_alone s _ refl
+
+going_alone : (s : PlainSession) (steps : ℕ) (run : PlainRun) (reply : Reply) → Alone s (going_outcome s steps run reply)
+going_alone s steps run reply =
+    either_alone s (is_ended run.reason) (refusal_outcome s why.RunEnded) (asked_outcome s steps run reply)
+    (refused_alone s why.RunEnded) (asked_alone s steps run reply)
+
+step_alone : (s : PlainSession) (steps : ℕ) (run : Option PlainRun) (reply : Reply) → Alone s (step_outcome s steps run reply)
+step_alone s steps None reply = running_alone s _ refl
+step_alone s steps (Some run) reply = going_alone s steps run reply
+
+resume_alone : (s : PlainSession) (run : Option PlainRun) (reply : Reply) → Alone s (resume_outcome s run reply)
+resume_alone s None reply = refused_alone s why.NoRun
+resume_alone s (Some run) reply = going_alone s (most_steps s.trace) run reply
+
+-- a run that goes back
+back_to_alone : (s : PlainSession) (from : List PlainConfiguration) → Alone s (back_to s from)
+back_to_alone s [] = refused_alone s why.NoHistory
+back_to_alone s (c ∷ earlier) = taken_alone s _ refl
+
+back_alone : (s : PlainSession) (steps : ℕ) (run : Option PlainRun) → Alone s (back_outcome s steps run)
+back_alone s steps None = refused_alone s why.NoRun
+back_alone s steps (Some run) = back_to_alone s (from_back steps run.earlier)
+
+-- more input
+input_alone : (s : PlainSession) (text : List ℕ) → Alone s (input_outcome s text)
+input_alone s text =
+    either_alone s (nat_lt longest_input (length s.input + (length text + 1))) (refusal_outcome s (why.File FileRefusal.TooLong))
+    (line_acceptance_outcome (with_more_input s (text ++ 10 ∷ [])))
+    (refused_alone s (why.File FileRefusal.TooLong)) (taken_alone s _ refl)
+
+-- code that is shown
+code_alone : (s : PlainSession) (from : ℕ) → Alone s (code_outcome s from)
+code_alone s from =
+    either_alone s (nat_lt from (length (code_at s.tree s.stop))) (line_acceptance_outcome (record s { code_from = Some from }))
+    (refusal_outcome s why.WrongArgument) (taken_alone s _ refl) (refused_alone s why.WrongArgument)
 
 -- a command
 command_alone : (s : PlainSession) (command : PlainCommand) (reply : Reply) → Alone s (command_outcome s command reply)
@@ -160,15 +221,15 @@ command_alone s (PlainCommand.insert name) reply = inserted_alone s (clip_named 
 command_alone s PlainCommand.elide reply = turned_alone s
 command_alone s PlainCommand.top reply = taken_alone s _ refl
 command_alone s PlainCommand.bottom reply = taken_alone s _ refl
-command_alone s PlainCommand.run reply = refused_alone s why.NotBuilt
-command_alone s (PlainCommand.step n) reply = refused_alone s why.NotBuilt
-command_alone s PlainCommand.resume reply = refused_alone s why.NotBuilt
-command_alone s (PlainCommand.back n) reply = refused_alone s why.NotBuilt
-command_alone s PlainCommand.trace reply = refused_alone s why.NotBuilt
-command_alone s (PlainCommand.input text) reply = refused_alone s why.NotBuilt
+command_alone s PlainCommand.run reply = running_alone s _ refl
+command_alone s (PlainCommand.step n) reply = step_alone s n s.run reply
+command_alone s PlainCommand.resume reply = resume_alone s s.run reply
+command_alone s (PlainCommand.back n) reply = back_alone s n s.run
+command_alone s PlainCommand.trace reply = taken_alone s _ refl
+command_alone s (PlainCommand.input text) reply = input_alone s text
 command_alone s (PlainCommand.save file) reply = save_alone s reply
 command_alone s (PlainCommand.load file) reply = load_alone s reply
-command_alone s (PlainCommand.code n) reply = refused_alone s why.NotBuilt
+command_alone s (PlainCommand.code n) reply = code_alone s n
 command_alone s PlainCommand.quit reply = ended_alone s _ refl
 
 -- a command line
@@ -178,9 +239,7 @@ reading_alone s (Err line.UnknownCommand) reply = refused_alone s why.UnknownCom
 reading_alone s (Err line.WrongArgument) reply = refused_alone s why.WrongArgument
 
 command_line_alone : (s : PlainSession) (reply : Reply) → Alone s (command_line_outcome s reply)
-command_line_alone s reply =
-    either_alone s (is_unbuilt s.typed) (refusal_outcome s why.NotBuilt) (reading_outcome s (command_of s.typed) reply)
-    (refused_alone s why.NotBuilt) (reading_alone s (command_of s.typed) reply)
+command_line_alone s reply = reading_alone s (command_of s.typed) reply
 
 -- phrase text that is this
 standing_alone : (s : PlainSession) (standing : Standing) → Alone s (standing_entered s standing)
@@ -195,6 +254,7 @@ standing_alone s (Standing.wrong_at place) = refused_alone s (why.Phrase (fault.
 read_alone : (s : PlainSession) (reply : Reply) → Alone s (read_entered s reply)
 read_alone s Reply.NotAsked = taken_alone s _ refl
 read_alone s (Reply.Read standing) = standing_alone s standing
+read_alone s (Reply.Resumes refusal) = taken_alone s _ refl
 read_alone s Reply.Saved = taken_alone s _ refl
 read_alone s (Reply.Loaded tree) = taken_alone s _ refl
 read_alone s (Reply.Refused refusal) = taken_alone s _ refl
@@ -237,6 +297,6 @@ pub refused_keys_change_the_message : RefusedKeysChangeTheMessage
 unfolding press
 refused_keys_change_the_message s key reply = (key_alone (without_code_display s) key reply).alone
 
-pub refused_keys_check_nothing : RefusedKeysCheckNothing
+pub refused_keys_cost_nothing : RefusedKeysCostNothing
 unfolding press
-refused_keys_check_nothing s key reply = (key_alone (without_code_display s) key reply).unchecked
+refused_keys_cost_nothing s key reply = (key_alone (without_code_display s) key reply).costless

@@ -56,6 +56,7 @@ reply_is : (c : Category) (x : List ℕ) (standing : Standing) → ((other : Sta
     → (reply : Reply) → IsTextReply c x reply → reply ≡ Reply.Read standing
 reply_is c x standing one Reply.NotAsked is = absurd is
 reply_is c x standing one (Reply.Read other) is = ap Reply.Read (one other is)
+reply_is c x standing one (Reply.Resumes refusal) is = absurd is
 reply_is c x standing one Reply.Saved is = absurd is
 reply_is c x standing one (Reply.Loaded tree) is = absurd is
 reply_is c x standing one (Reply.Refused refusal) is = absurd is

@@ -1,10 +1,14 @@
--- The cursor may stand where it stood at a comment that is turned.
+-- The cursor may stand where it stood at a comment that is turned, and what comes of turning it comes of the command.
 use Rattle.std.proofs.Common.{◌≡◌, ℕ, zero, suc, Bool, true, false, not, if◌then◌else◌, List, [], ◌∷◌, Option, Some, None, option_map, option_and_then, refl, sym, ap, subst, ◌∙◌}
 use Rattle.std.specs.Prelude.{IsSomeAnd, slice_get}
 use Rattle.template_tree.specs.Edits.Edit.{edit_at, edit_below, give_way}
-use Rattle.template_tree.specs.Edits.Elision.{is_comment, toggled}
+use Rattle.template_tree.specs.Edits.Elision.{is_comment, toggled, with_toggled_at}
 use Rattle.template_tree.specs.Programs.PlainTree.{Forest, PlainNode, nodes}
 use Rattle.template_tree.specs.Positions.Stop.{IsStop, MayStand, PlainStop, visible_at, visible_below}
+use Rattle.synth_session.specs.declared.answer.Refusal.TheVariants as why
+use Rattle.synth_session.specs.ElideCommand.{comment_toggled, is_at_comment}
+use Rattle.synth_session.specs.KeyOutcome.{KeyOutcome, line_acceptance_outcome, refusal_outcome}
+use Rattle.synth_session.specs.PlainSession.{PlainSession}
 
 -- a comment turned, or another node as it is
 abbrev turned_node : PlainNode → PlainNode
@@ -76,3 +80,12 @@ pub turned_stop : (items : Forest) (stop : PlainStop) → IsStop items stop → 
 turned_stop items stop stands =
     subst (λ found. IsSomeAnd found (λ node. MayStand stop.part node.label.kind)) (sym (seen_at items stop.path))
     (stands_on stop.part (visible_at items stop.path) stands)
+
+-- where the cursor is at a comment, what comes of turning it comes of the command
+pub comment_turned : (s : PlainSession) (P : KeyOutcome → Type 0) → is_at_comment s.tree s.stop ≡ true
+    → P (line_acceptance_outcome (record s { tree = with_toggled_at s.stop.path s.tree })) → P (comment_toggled s)
+comment_turned s P at h = by (is_at_comment s.tree s.stop) at (line_acceptance_outcome (record s { tree = with_toggled_at s.stop.path s.tree })) h
+  where
+    by : (at : Bool) → at ≡ true → (outcome : KeyOutcome) → P outcome → P (if at then outcome else refusal_outcome s why.NotHere)
+    by true is outcome h = h
+    by false is outcome h = absurd (cc)

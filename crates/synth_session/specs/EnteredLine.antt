@@ -1,14 +1,11 @@
 -- What Enter does with the typed line, which is a command or phrase text.
-use Rattle.std.specs.Prelude.{ℕ, ◌==◌, Bool, false, nat_lt, if◌then◌else◌, List, [], ◌∷◌, length, codes, Option, Some, None, Ok, Err}
-use Rattle.std.specs.List.{list_any}
-use Rattle.std.specs.Option.{option_map_or}
-use Rattle.std.specs.Str.{bytes_eq}
+use Rattle.std.specs.Prelude.{◌==◌, nat_lt, if◌then◌else◌, length, Option, Some, None, Ok, Err}
 use Rattle.plcs_grammar.specs.Canon.{Canon}
 use Rattle.plcs_grammar.specs.OverLimit.{OverLimit}
 use Rattle.plcs_grammar.specs.declared.category.Category.{Category}
 use Rattle.phrase_parser.specs.Standing.{Standing}
 use Rattle.phrase_parser.specs.declared.fault.PhraseFault.TheVariants as fault
-use Rattle.session_words.specs.CommandLine.{begins_with_point, command_of, command_word}
+use Rattle.session_words.specs.CommandLine.{begins_with_point, command_of}
 use Rattle.session_words.specs.PlainCommand.{PlainCommand, PlainReading}
 use Rattle.session_words.specs.declared.command.CommandFault.TheVariants as line
 use Rattle.template_tree.specs.declared.side.Side.{Side}
@@ -20,33 +17,23 @@ use Rattle.synth_session.specs.declared.answer.Answer.{Answer}
 use Rattle.synth_session.specs.declared.answer.Refusal.TheVariants as why
 use Rattle.synth_session.specs.CursorKeys.{cursor_moved}
 use Rattle.synth_session.specs.ClipCommands.{clip_inserted, copied_to_clip, cut_to_clip}
+use Rattle.synth_session.specs.CodeCommand.{code_outcome}
 use Rattle.synth_session.specs.EditCommands.{edited_by}
 use Rattle.synth_session.specs.ElideCommand.{comment_toggled}
 use Rattle.synth_session.specs.FileCommands.{load_outcome, save_outcome}
 use Rattle.synth_session.specs.KeyReply.{Reply}
 use Rattle.synth_session.specs.KeyOutcome.{KeyOutcome, line_acceptance_outcome, no_reply_outcome, refusal_outcome}
 use Rattle.synth_session.specs.PlainSession.{PlainSession}
+use Rattle.synth_session.specs.RunCommands.{back_outcome, input_outcome, resume_outcome, run_outcome, step_outcome, trace_outcome}
 
 -- ---- commands
 
--- the words of commands that aren't built yet: those of runs and of input
-abbrev pub unbuilt_words : List (List ℕ)
-unbuilt_words =
-    codes "run" ∷ codes "step" ∷ codes "resume" ∷ codes "back" ∷ codes "trace" ∷ codes "input" ∷ codes "code" ∷ []
-
--- whether the word of a typed line, which Enter takes, is that of a command which isn't built yet
-abbrev pub is_unbuilt_word : List ℕ → Bool
-is_unbuilt_word word = list_any (bytes_eq word) unbuilt_words
-
--- whether the line is that of a command which isn't built yet, whatever its argument
-unfoldable pub is_unbuilt : List ℕ → Bool
-is_unbuilt line = option_map_or is_unbuilt_word (command_word line) false
-
--- what Enter does with `.quit`: the session ends, and nothing is shown any more
+-- what `.quit` does: the session ends, and nothing is shown any more
 abbrev pub quit_outcome : PlainSession → KeyOutcome
-quit_outcome s = record { after = s; answer = Answer.Quit; checks = 0 }
+quit_outcome s = record { after = s; answer = Answer.Quit; checks = 0; emits = 0; fetches = 0 }
 
--- what Enter does with each command; what it does with one of files depends on what they reply
+-- what each command does; what one of files does depends on what they reply, and what one does by which a run that stands
+-- is to go on depends on whether it may
 abbrev pub command_outcome : PlainSession → PlainCommand → Reply → KeyOutcome
 command_outcome s (PlainCommand.template template) reply = edited_by s (PlainEdit.fill template)
 command_outcome s PlainCommand.float reply = refusal_outcome s why.FloatNotThere
@@ -59,15 +46,15 @@ command_outcome s (PlainCommand.insert name) reply = clip_inserted s name
 command_outcome s PlainCommand.elide reply = comment_toggled s
 command_outcome s PlainCommand.top reply = line_acceptance_outcome (record s { stop = first_stop s.tree.items })
 command_outcome s PlainCommand.bottom reply = line_acceptance_outcome (record s { stop = last_stop s.tree.items })
-command_outcome s PlainCommand.run reply = refusal_outcome s why.NotBuilt
-command_outcome s (PlainCommand.step n) reply = refusal_outcome s why.NotBuilt
-command_outcome s PlainCommand.resume reply = refusal_outcome s why.NotBuilt
-command_outcome s (PlainCommand.back n) reply = refusal_outcome s why.NotBuilt
-command_outcome s PlainCommand.trace reply = refusal_outcome s why.NotBuilt
-command_outcome s (PlainCommand.input text) reply = refusal_outcome s why.NotBuilt
+command_outcome s PlainCommand.run reply = run_outcome s
+command_outcome s (PlainCommand.step n) reply = step_outcome s n s.run reply
+command_outcome s PlainCommand.resume reply = resume_outcome s s.run reply
+command_outcome s (PlainCommand.back n) reply = back_outcome s n s.run
+command_outcome s PlainCommand.trace reply = trace_outcome s
+command_outcome s (PlainCommand.input text) reply = input_outcome s text
 command_outcome s (PlainCommand.save file) reply = save_outcome s reply
 command_outcome s (PlainCommand.load file) reply = load_outcome s reply
-command_outcome s (PlainCommand.code n) reply = refusal_outcome s why.NotBuilt
+command_outcome s (PlainCommand.code n) reply = code_outcome s n
 command_outcome s PlainCommand.quit reply = quit_outcome s
 
 -- what a command line does that reads as this command, or as none for this reason
@@ -76,10 +63,9 @@ reading_outcome s (Ok command) reply = command_outcome s command reply
 reading_outcome s (Err line.UnknownCommand) reply = refusal_outcome s why.UnknownCommand
 reading_outcome s (Err line.WrongArgument) reply = refusal_outcome s why.WrongArgument
 
--- what a command line does; that a command isn't built comes before every other refusal
+-- what a command line does
 abbrev pub command_line_outcome : PlainSession → Reply → KeyOutcome
-command_line_outcome s reply =
-    if is_unbuilt s.typed then refusal_outcome s why.NotBuilt else reading_outcome s (command_of s.typed) reply
+command_line_outcome s reply = reading_outcome s (command_of s.typed) reply
 
 -- ---- phrase text
 

@@ -1,4 +1,4 @@
--- What comes of a key: the session after it, the answer, and how many phrases are checked at most.
+-- What comes of a key: the session after it, the answer, and what is counted in it.
 use Rattle.std.specs.Prelude.{ℕ, []}
 use Rattle.session_words.specs.declared.message.Message.{Message}
 use Rattle.session_words.specs.declared.message.Notice.{Notice}
@@ -7,30 +7,38 @@ use Rattle.synth_session.specs.declared.answer.Answer.{Answer}
 use Rattle.synth_session.specs.declared.answer.Refusal.{Refusal}
 use Rattle.synth_session.specs.CheckedPhrases.{phrase_count}
 use Rattle.synth_session.specs.PlainSession.{PlainSession}
+use Rattle.synth_session.specs.ProgramCode.{code_length}
 use Rattle.synth_session.specs.RefusalText.{refusal_text}
 use Rattle.synth_session.specs.Window.{with_cursor_seen}
 
--- the session after a key, the answer to the key, and its bill: how many phrases are checked in it at most
+-- the session after a key, the answer to the key, and what is counted in it: how many phrases are checked and how many
+-- instructions emitted at most, and how many instructions are fetched, those of ticks not counted
 pub record KeyOutcome : Type 0 where
   pub after : PlainSession
   pub answer : Answer
   pub checks : ℕ
+  pub emits : ℕ
+  pub fetches : ℕ
 
--- what comes of a key that is refused for this: it changes the message alone, and nothing is checked
+-- what comes of a key that is refused for this: it changes the message alone, and nothing is counted
 abbrev pub refusal_outcome : PlainSession → Refusal → KeyOutcome
 refusal_outcome s reason = record {
   after = record s { message = refusal_text reason };
   answer = Answer.Refused reason;
   checks = 0;
+  emits = 0;
+  fetches = 0;
 }
 
 -- what comes of a key that is accepted, and leaves this but for message and window: the message is cleared, the window
--- follows the cursor, and nothing is checked
+-- follows the cursor, and nothing is counted
 abbrev pub acceptance_outcome : PlainSession → KeyOutcome
 acceptance_outcome s = record {
   after = record (with_cursor_seen s) { message = [] };
   answer = Answer.Done;
   checks = 0;
+  emits = 0;
+  fetches = 0;
 }
 
 -- what comes of a key by which the typed line is accepted: the session after it, in which the line is typed no more,
@@ -39,9 +47,10 @@ abbrev pub line_acceptance_outcome : PlainSession → KeyOutcome
 line_acceptance_outcome s = acceptance_outcome (record s { typed = [] })
 
 -- what comes of a key by which the typed line is accepted, and the program comes to be another: each of its phrases is
--- checked once at most
+-- checked once at most, and each instruction of its code emitted once at most
 abbrev pub program_acceptance_outcome : PlainSession → KeyOutcome
-program_acceptance_outcome s = record (line_acceptance_outcome s) { checks = phrase_count s.tree }
+program_acceptance_outcome s =
+    record (line_acceptance_outcome s) { checks = phrase_count s.tree; emits = code_length s.tree }
 
 -- what comes of a key by which the typed line is accepted, where this notice is told
 abbrev pub line_notice_outcome : PlainSession → Notice → KeyOutcome
@@ -49,8 +58,10 @@ line_notice_outcome s notice = record {
   after = record (with_cursor_seen (record s { typed = [] })) { message = message_text (Message.Notice notice) };
   answer = Answer.Done;
   checks = 0;
+  emits = 0;
+  fetches = 0;
 }
 
 -- what comes of a key with a reply that what it asks can't have, and may be anything
 abbrev pub no_reply_outcome : PlainSession → KeyOutcome
-no_reply_outcome s = record { after = s; answer = Answer.Done; checks = 0 }
+no_reply_outcome s = record { after = s; answer = Answer.Done; checks = 0; emits = 0; fetches = 0 }

@@ -8,6 +8,10 @@ use Rattle.template_tree.specs.Programs.PlainTree.{PlainTree}
 use Rattle.template_tree.specs.Programs.Tree.{IsTree}
 use Rattle.plcs_grammar.specs.declared.category.Category.{Category}
 use Rattle.phrase_parser.specs.Standing.{HasStanding, Standing}
+use Rattle.plcs_store.specs.declared.kept.Kept.{Kept}
+use Rattle.plcs_store.specs.declared.refusal.ResumeRefusal.{ResumeRefusal}
+use Rattle.plcs_store.specs.Configuration.{PlainConfiguration}
+use Rattle.plcs_store.specs.Resume.{MayResume}
 use Rattle.file_store.specs.declared.refusal.FileRefusal.{FileRefusal}
 use Rattle.file_store.specs.FileReading.{LoadingSays}
 use Rattle.file_store.specs.Saved.{IsSaved}
@@ -15,19 +19,21 @@ use Rattle.synth_session.specs.declared.answer.Answer.{Answer}
 
 -- ---- what is asked, and what is replied
 
--- what a key can ask: nothing, what a text is as phrase text of a category, or of the files to save bytes under a name,
--- or to load the program of a name
+-- what a key can ask: nothing, what a text is as phrase text of a category, whether a run may go on in the program, by
+-- what is kept for it, or of the files to save bytes under a name, or to load the program of a name
 pub data Request : Type 0 where
   Nothing : Request
   Read : Category → (text : List ℕ) → Request
+  Resume : Kept → PlainConfiguration → PlainTree → Request
   Save : (name bytes : List ℕ) → Request
   Load : (name : List ℕ) → Request
 
--- what is replied to a key: nothing was asked, the text is this, and by the files that the bytes were saved, that this
--- program was loaded, or that what was asked was refused for this
+-- what is replied to a key: nothing was asked, the text is this, the run may go on or may not for this, and by the files
+-- that the bytes were saved, that this program was loaded, or that what was asked was refused for this
 pub data Reply : Type 0 where
   NotAsked : Reply
   Read : Standing → Reply
+  Resumes : Option ResumeRefusal → Reply
   Saved : Reply
   Loaded : PlainTree → Reply
   Refused : FileRefusal → Reply
@@ -43,6 +49,18 @@ TextsHaveOneReply =
     (category : Category) (text : List ℕ)
     → (reply : Reply) × IsTextReply category text reply
     × ((other : Reply) → IsTextReply category text other → other ≡ reply)
+
+-- whether a run may go on in a program, by what is kept for it, can be replied to so: it is the first refusal that holds,
+-- or none
+abbrev pub IsResumeReply : Kept → PlainConfiguration → PlainTree → Reply → Type 0
+IsResumeReply kept c tree (Reply.Resumes refusal) = MayResume kept c tree.items refusal
+IsResumeReply kept c tree reply = ⊥
+
+-- the law of resumption: at most one thing can be replied to whether a run may go on
+abbrev pub RunsHaveOneReply : Type 0
+RunsHaveOneReply =
+    (kept : Kept) (c : PlainConfiguration) (tree : PlainTree) (one other : Reply)
+    → IsResumeReply kept c tree one → IsResumeReply kept c tree other → one ≡ other
 
 -- a save can be replied to so: the bytes were saved, or a call failed
 abbrev pub IsSaveReply : Reply → Type 0
@@ -62,6 +80,7 @@ IsLoadReply stored name reply = ⊥
 abbrev pub CanReply : Option FileMap → Request → Reply → Type 0
 CanReply stored Request.Nothing reply = reply ≡ Reply.NotAsked
 CanReply stored (Request.Read category text) reply = IsTextReply category text reply
+CanReply stored (Request.Resume kept c tree) reply = IsResumeReply kept c tree reply
 CanReply stored (Request.Save name bytes) reply = IsSaveReply reply
 CanReply stored (Request.Load name) reply = IsLoadReply stored name reply
 
@@ -90,6 +109,7 @@ pub record HaveReplied (request : Request) (reply : Reply) (before now : PlainFi
 abbrev pub CountsWant : Request → ℕ → ℕ → Type 0
 CountsWant Request.Nothing before now = now ≡ before
 CountsWant (Request.Read category text) before now = now ≡ before
+CountsWant (Request.Resume kept c tree) before now = now ≡ before
 CountsWant (Request.Save name bytes) before now = Rose before now
 CountsWant (Request.Load name) before now = before ≤ now
 

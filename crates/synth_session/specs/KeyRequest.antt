@@ -4,14 +4,22 @@ use Rattle.plcs_grammar.specs.declared.category.Category.{Category}
 use Rattle.session_words.specs.CommandLine.{begins_with_point, command_of}
 use Rattle.session_words.specs.PlainCommand.{PlainCommand, PlainReading}
 use Rattle.template_tree.specs.Listings.Listing.{Listing}
+use Rattle.template_tree.specs.Programs.PlainTree.{PlainTree}
 use Rattle.session_edit.specs.Here.{category_at}
 use Rattle.synth_session.specs.declared.key.Key.{Key}
 use Rattle.synth_session.specs.declared.key.Key.TheVariants.{Enter}
-use Rattle.synth_session.specs.EnteredLine.{is_unbuilt}
 use Rattle.synth_session.specs.KeyReply.{Request}
+use Rattle.synth_session.specs.PlainRun.{PlainRun, is_ended}
 use Rattle.synth_session.specs.PlainSession.{PlainSession}
 
--- what a command asks: `.save` asks the files to save the listing of the program, and `.load` to load one
+-- what a run that stands asks that is to go on: whether it may, unless it is over
+abbrev pub run_request : PlainTree → Option PlainRun → Request
+run_request tree None = Request.Nothing
+run_request tree (Some run) =
+    if is_ended run.reason then Request.Nothing else Request.Resume run.kept run.configuration tree
+
+-- what a command asks: `.step` and `.resume` ask whether the run that stands may go on, `.save` asks the files to save the
+-- listing of the program, and `.load` to load one
 abbrev pub command_request : PlainSession → PlainCommand → Request
 command_request s (PlainCommand.template template) = Request.Nothing
 command_request s PlainCommand.float = Request.Nothing
@@ -25,8 +33,8 @@ command_request s PlainCommand.elide = Request.Nothing
 command_request s PlainCommand.top = Request.Nothing
 command_request s PlainCommand.bottom = Request.Nothing
 command_request s PlainCommand.run = Request.Nothing
-command_request s (PlainCommand.step n) = Request.Nothing
-command_request s PlainCommand.resume = Request.Nothing
+command_request s (PlainCommand.step n) = run_request s.tree s.run
+command_request s PlainCommand.resume = run_request s.tree s.run
 command_request s (PlainCommand.back n) = Request.Nothing
 command_request s PlainCommand.trace = Request.Nothing
 command_request s (PlainCommand.input text) = Request.Nothing
@@ -42,7 +50,7 @@ reading_request s (Err fault) = Request.Nothing
 
 -- what a command line asks
 abbrev pub command_line_request : PlainSession → Request
-command_line_request s = if is_unbuilt s.typed then Request.Nothing else reading_request s (command_of s.typed)
+command_line_request s = reading_request s (command_of s.typed)
 
 -- what phrase text of a category asks, where the cursor wants one: what it is
 abbrev pub text_request : PlainSession → Option Category → Request

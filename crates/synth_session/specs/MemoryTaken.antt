@@ -1,15 +1,14 @@
 -- Which keys take memory, their own or that of the files.
-use Rattle.std.specs.Prelude.{Bool, true, false, ◌==◌, if◌then◌else◌, length, is_some, Ok, Err}
+use Rattle.std.specs.Prelude.{Bool, true, false, ◌==◌, if◌then◌else◌, length, is_none, is_some, Ok, Err}
 use Rattle.session_edit.specs.Here.{category_at}
 use Rattle.session_words.specs.CommandLine.{begins_with_point, command_of}
 use Rattle.session_words.specs.PlainCommand.{PlainCommand, PlainReading}
 use Rattle.synth_session.specs.declared.key.Key.{Key}
 use Rattle.synth_session.specs.declared.key.Key.TheVariants.{Enter}
-use Rattle.synth_session.specs.EnteredLine.{is_unbuilt}
 use Rattle.synth_session.specs.PlainSession.{PlainSession}
 
--- whether a command takes memory in a session: those that edit the program, those of clips, and those of files do;
--- saving takes none of its own, but the files may want some
+-- whether a command takes memory in a session: those that edit the program, those of clips, those that begin a run, more
+-- input, and those of files do; saving takes none of its own, but the files may want some
 abbrev pub command_takes_memory : PlainSession → PlainCommand → Bool
 command_takes_memory s (PlainCommand.template template) = true
 command_takes_memory s PlainCommand.float = false
@@ -22,12 +21,12 @@ command_takes_memory s (PlainCommand.insert name) = true
 command_takes_memory s PlainCommand.elide = false
 command_takes_memory s PlainCommand.top = false
 command_takes_memory s PlainCommand.bottom = false
-command_takes_memory s PlainCommand.run = false
-command_takes_memory s (PlainCommand.step n) = false
+command_takes_memory s PlainCommand.run = true
+command_takes_memory s (PlainCommand.step n) = is_none s.run
 command_takes_memory s PlainCommand.resume = false
 command_takes_memory s (PlainCommand.back n) = false
 command_takes_memory s PlainCommand.trace = false
-command_takes_memory s (PlainCommand.input text) = false
+command_takes_memory s (PlainCommand.input text) = true
 command_takes_memory s (PlainCommand.save file) = true
 command_takes_memory s (PlainCommand.load file) = true
 command_takes_memory s (PlainCommand.code n) = false
@@ -40,7 +39,7 @@ reading_takes_memory s (Err fault) = false
 
 -- whether a command line takes memory
 abbrev pub command_line_takes_memory : PlainSession → Bool
-command_line_takes_memory s = if is_unbuilt s.typed then false else reading_takes_memory s (command_of s.typed)
+command_line_takes_memory s = reading_takes_memory s (command_of s.typed)
 
 -- whether the typed line takes memory where it is entered: phrase text does where it is wanted
 abbrev pub line_takes_memory : PlainSession → Bool

@@ -1,5 +1,5 @@
 -- The session with which an editor is opened.
-use Rattle.std.specs.Prelude.{ℕ, List, [], ◌∷◌, Option, Some, None}
+use Rattle.std.specs.Prelude.{ℕ, false, List, [], ◌∷◌, Option, Some, None}
 use Rattle.template_tree.specs.Programs.NewTree.{new_tree}
 use Rattle.template_tree.specs.Programs.PlainTree.{PlainTree}
 use Rattle.template_tree.specs.Positions.Stop.{PlainStop, node_stop}
@@ -20,7 +20,8 @@ stop_at_first None = node_stop (0 ∷ 1 ∷ [])
 stop_at_first (Some tree) = first_stop tree.items
 
 -- a session over a tree with the cursor at a stop, on a screen of this size, with this input: nothing is typed, clipped
--- or told, and the window begins at the first line from which the cursor is seen
+-- or told, no step or code is shown and no run stands, and the window begins at the first line from which the cursor is
+-- seen
 abbrev pub session_over : PlainScreenSize → PlainTree → PlainStop → List ℕ → PlainSession
 session_over size tree stop input =
     with_cursor_seen record {
@@ -31,7 +32,12 @@ session_over size tree stop input =
       typed = [];
       clips = [];
       input = input;
+      trace = false;
       message = [];
+      code_from = None;
+      run = None;
+      asked = 0;
+      made = 0;
     }
 
 -- the session with which an editor is opened, over the program that is given or a new one, with this input of the

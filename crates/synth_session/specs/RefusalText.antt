@@ -7,6 +7,7 @@ use Rattle.session_words.specs.declared.message.Message.{Message}
 use Rattle.session_words.specs.declared.message.RefusalMessage.TheVariants as words
 use Rattle.session_words.specs.Message.{message_text}
 use Rattle.template_tree.specs.declared.tree_fault.TreeFault.{TreeFault}
+use Rattle.plcs_store.specs.declared.refusal.ResumeRefusal.{ResumeRefusal}
 use Rattle.file_store.specs.declared.refusal.FileRefusal.{FileRefusal}
 use Rattle.synth_session.specs.declared.answer.ClipRefusal.{ClipRefusal}
 use Rattle.synth_session.specs.declared.answer.Refusal.{Refusal}
@@ -37,6 +38,12 @@ tree_message TreeFault.TooLarge = Some (Message.Refusal words.TreeTooLarge)
 tree_message TreeFault.SlotsUsedUp = Some (Message.Refusal words.SlotsUsedUp)
 tree_message TreeFault.OutOfMemory = None
 
+-- the message for a run that may not go on
+abbrev pub resume_message : ResumeRefusal → Message
+resume_message (ResumeRefusal.HeadingChanged slot) = Message.Refusal (words.HeadingChanged slot.0)
+resume_message (ResumeRefusal.DeclarationChanged slot) = Message.Refusal (words.DeclarationChanged slot.0)
+resume_message (ResumeRefusal.TemplateChanged slot) = Message.Refusal (words.TemplateChanged slot.0)
+
 -- the message for a refusal; want of memory has none
 abbrev pub refusal_message : Refusal → Option Message
 refusal_message why.UnknownCommand = Some (Message.Refusal words.UnknownCommand)
@@ -45,12 +52,15 @@ refusal_message (why.Phrase fault) = phrase_message fault
 refusal_message (why.Clip ClipRefusal.NoClip) = Some (Message.Refusal words.NoClip)
 refusal_message (why.Clip ClipRefusal.Full) = Some (Message.Refusal words.ClipsFull)
 refusal_message (why.File refusal) = file_message refusal
+refusal_message why.NoRun = Some (Message.Refusal words.NoRun)
+refusal_message why.RunEnded = Some (Message.Refusal words.RunEnded)
+refusal_message why.NoHistory = Some (Message.Refusal words.NoHistory)
+refusal_message (why.Resume refusal) = Some (resume_message refusal)
 refusal_message (why.Tree fault) = tree_message fault
 refusal_message why.WrongArgument = Some (Message.Refusal words.WrongArgument)
 refusal_message why.PhraseFull = Some (Message.Refusal words.PhraseFull)
 refusal_message why.FloatNotThere = Some (Message.Refusal words.FloatNotThere)
 refusal_message why.AtEdge = Some (Message.Refusal words.AtEdge)
-refusal_message why.NotBuilt = Some Message.NotBuilt
 
 -- the text that is shown for the message of a refusal, or for another message, or nothing where there is none
 abbrev pub shown_message : Option Message → List ℕ

@@ -1,6 +1,7 @@
 -- The screen of a session: its view, with the prompt.
-use Rattle.std.specs.Prelude.{ℕ, List, [], ◌++◌, codes, Option, Some, None}
+use Rattle.std.specs.Prelude.{ℕ, List, [], ◌++◌, codes, length, if◌then◌else◌, Option, Some, None, option_map}
 use Rattle.std.specs.Option.{option_map_or}
+use Rattle.plcs_base.specs.declared.place.Place.{Place}
 use Rattle.plcs_grammar.specs.declared.node_kind.Sort.{Sort}
 use Rattle.plcs_grammar.specs.Placeholder.{placeholder_word}
 use Rattle.template_tree.specs.Checks.Marks.{Marks}
@@ -10,9 +11,12 @@ use Rattle.template_tree.specs.Programs.Program.{sort_of}
 use Rattle.template_tree.specs.Positions.Stop.{PlainStop}
 use Rattle.screen_window.specs.PlainGrid.{PlainGrid}
 use Rattle.screen_window.specs.PlainView.{PlainView}
-use Rattle.screen_window.specs.Screen.{Screen}
+use Rattle.plcs_store.specs.Undone.{newest_frame}
+use Rattle.screen_window.specs.Screen.{Screen, window_rows}
 use Rattle.session_edit.specs.Here.{category_at}
+use Rattle.synth_session.specs.PlainRun.{PlainRun, is_ended}
 use Rattle.synth_session.specs.PlainSession.{PlainSession}
+use Rattle.synth_session.specs.ProgramCode.{code_rows}
 
 -- ---- the prompt
 
@@ -33,21 +37,41 @@ word_at tree stop (Some part) = option_map_or placeholder_word (category_at tree
 unfoldable pub prompt : PlainTree → PlainStop → List ℕ
 prompt tree stop = word_at tree stop stop.part ++ codes "> "
 
+-- ---- the run and the code
+
+-- the place of a run where the screen shows it, if one stands and isn't over
+abbrev pub run_place : Option PlainRun → Option Place
+run_place None = None
+run_place (Some run) =
+    if is_ended run.reason then None else option_map (λ frame. frame.place) (newest_frame run.configuration.frames)
+
+-- what was written by the run, if one stands
+abbrev pub run_output : Option PlainRun → List ℕ
+run_output run = option_map_or (λ stands. stands.configuration.output) run []
+
+-- the rows of code that are shown in place of the program, if they are
+abbrev pub shown_code : PlainSession → Option (List (List ℕ))
+shown_code s = option_map (code_rows (window_rows s.size.rows) s.tree s.stop) s.code_from
+
+-- how many instructions are fetched to draw the screen of a session: one for each that is shown
+abbrev pub screen_fetches : PlainSession → ℕ
+screen_fetches s = option_map_or length (shown_code s) 0
+
 -- ---- the screen
 
--- the view of a session, which its screen shows, with the marks of its program; nothing runs yet
+-- the view of a session, which its screen shows, with the marks of its program
 abbrev pub view_of : PlainSession → PlainView
 view_of s = record {
   items = s.tree.items;
   marks = Marks s.tree.items;
   stop = s.stop;
   top = s.top;
-  run_place = None;
-  output = [];
+  run_place = run_place s.run;
+  output = run_output s.run;
   message = s.message;
   prompt = prompt s.tree s.stop;
   typed = s.typed;
-  code = None;
+  code = shown_code s;
 }
 
 -- the screen of a session

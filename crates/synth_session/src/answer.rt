@@ -1,9 +1,10 @@
 //! Answers to keys, and refusals with their messages.
 ghost use Rattle.std.specs.Prelude.{◌≡◌};
-ghost use Rattle.synth_session.specs.RefusalText.{file_message, phrase_message, refusal_message, tree_message};
+ghost use Rattle.synth_session.specs.RefusalText.{file_message, phrase_message, refusal_message, resume_message, tree_message};
 
 use file_store::FileRefusal;
 use phrase_parser::PhraseFault;
+use plcs_store::ResumeRefusal;
 use session_words::{Message, RefusalMessage};
 use template_tree::TreeFault;
 
@@ -12,8 +13,10 @@ use template_tree::TreeFault;
 pub enum Answer {
     /// It was carried out.
     Done,
-    /// It changed nothing but the message.
+    /// It changed nothing but the message, and ended a display of code.
     Refused(Refusal),
+    /// The run goes on: its steps are made by ticks.
+    Running,
     /// It ended the session.
     Quit,
 }
@@ -31,6 +34,14 @@ pub enum Refusal {
     Clip(ClipRefusal),
     /// The file can't be saved or loaded. `OutOfMemory` is no refusal: `press` answers it itself.
     File(FileRefusal),
+    /// No run stands.
+    NoRun,
+    /// The run is over.
+    RunEnded,
+    /// No earlier step of the run is held.
+    NoHistory,
+    /// The run may not go on in the program as it is now.
+    Resume(ResumeRefusal),
     /// The program would be past a limit. `NotHere` isn't among these, and `OutOfMemory` is no refusal.
     Tree(TreeFault),
     /// The command has an argument that it doesn't take, or lacks one.
@@ -41,8 +52,6 @@ pub enum Refusal {
     FloatNotThere,
     /// There is no stop to go to.
     AtEdge,
-    /// The command isn't built yet.
-    NotBuilt,
 }
 
 /// Why a key with a command of clips was refused, as its answer tells.
@@ -66,12 +75,15 @@ impl Refusal {
             Refusal::Clip(ClipRefusal::NoClip) => RefusalMessage::NoClip,
             Refusal::Clip(ClipRefusal::Full) => RefusalMessage::ClipsFull,
             Refusal::File(refusal) => return file_message(refusal),
+            Refusal::NoRun => RefusalMessage::NoRun,
+            Refusal::RunEnded => RefusalMessage::RunEnded,
+            Refusal::NoHistory => RefusalMessage::NoHistory,
+            Refusal::Resume(refusal) => return Some(resume_message(refusal)),
             Refusal::Tree(fault) => return tree_message(fault),
             Refusal::WrongArgument => RefusalMessage::WrongArgument,
             Refusal::PhraseFull => RefusalMessage::PhraseFull,
             Refusal::FloatNotThere => RefusalMessage::FloatNotThere,
             Refusal::AtEdge => RefusalMessage::AtEdge,
-            Refusal::NotBuilt => return Some(Message::NotBuilt),
         }))
     }
 }
@@ -103,8 +115,18 @@ fn file_message(refusal: FileRefusal) -> Option<Message>
     }))
 }
 
-/// The message of the refusal that answers a key, where an edit of the program is refused for this; want of
-/// memory has none.
+/// The message that is shown for a run that may not go on.
+fn resume_message(refusal: ResumeRefusal) -> Message
+    ensures { result ≡ resume_message refusal }
+{
+    Message::Refusal(match refusal {
+        ResumeRefusal::HeadingChanged(slot) => RefusalMessage::HeadingChanged(slot.0),
+        ResumeRefusal::DeclarationChanged(slot) => RefusalMessage::DeclarationChanged(slot.0),
+        ResumeRefusal::TemplateChanged(slot) => RefusalMessage::TemplateChanged(slot.0),
+    })
+}
+
+/// The message that is shown for an edit of the program that is refused; want of memory has none.
 fn tree_message(fault: TreeFault) -> Option<Message>
     ensures { result ≡ tree_message fault }
 {

@@ -1,6 +1,5 @@
 //! The commands of clips, `.copy`, `.cut` and `.insert`.
 ghost use Rattle.std.specs.Prelude.{◌≡◌, ◌≤◌, false, true, not, IfOk, IfSome, Option, Some, None, option_map, option_and_then};
-ghost use Rattle.plcs_base.specs.PlainCounts.{ChecksAtMost};
 ghost use Rattle.plcs_grammar.specs.PlainPhrase.{plain_phrase};
 ghost use Rattle.template_tree.specs.Programs.PlainTree.{roomless_tree};
 ghost use Rattle.template_tree.specs.Programs.Program.{IsSubtree};
@@ -13,9 +12,8 @@ ghost use Rattle.session_edit.specs.Edited.{edited};
 ghost use Rattle.session_edit.specs.Here.{takes_at};
 ghost use Rattle.session_edit.specs.PlainEdit.{PlainEdit};
 ghost use Rattle.synth_session.specs.ClipCommands.{clip_inserted, copied_to_clip, cut_outcome, cut_to_clip, fragment_there, slots_there};
-ghost use Rattle.synth_session.specs.Private.Faults.{edit_checks};
 ghost use Rattle.synth_session.specs.TypedLine.{cursor_phrase};
-ghost use Rattle.synth_session.specs.SessionView.{Does, IsSession, plain_session};
+ghost use Rattle.synth_session.specs.SessionView.{CountsOutcome, Does, IsReadyForKey, plain_session};
 
 use crate::answer::{Answer, ClipRefusal, Refusal};
 use crate::edit_commands::edit_refusal;
@@ -28,11 +26,12 @@ use plcs_grammar::{Phrase, copy_phrase};
 use session_edit::{Edit, takes};
 use std::alloc::Global;
 use template_tree::{Stop, Tree, TreeFault, room_is_not_shown};
+use tree_steps::edits_follow;
 
 impl<W: Work> Session<W> {
     /// Copies what stands at the cursor into the clip of the name.
     pub(crate) fn copy(&mut self, alloc: Global, name: Name) -> Result<Answer, OutOfMemory>
-        requires { IsSession self.old }
+        requires { IsReadyForKey self.old }
         ensures { Does true (copied_to_clip (plain_session self.old) name) self.old self.new result }
     {
         if !takes(&self.program.tree, &self.stop) {
@@ -55,10 +54,10 @@ impl<W: Work> Session<W> {
         name: Name,
         work: &mut W,
     ) -> Result<Answer, OutOfMemory>
-        requires session { IsSession self.old }
+        requires session { IsReadyForKey self.old }
         ensures does { Does true (cut_to_clip (plain_session self.old) name) self.old self.new result }
-        ensures counts { ChecksAtMost (cut_to_clip (plain_session self.old) name).checks
-            (W.counts work.old) (W.counts work.new) }
+        ensures counts { CountsOutcome (cut_to_clip (plain_session self.old) name)
+            (W.counts work.old) (W.counts work.new) result }
     {
         if !takes(&self.program.tree, &self.stop) {
             return Ok(self.refuse(Refusal::NotHere));
@@ -73,7 +72,7 @@ impl<W: Work> Session<W> {
     /// Takes what stands at the cursor out into the clip of the name: it can be taken out, and the clips have room
     /// for it.
     fn cut_out(&mut self, alloc: Global, name: Name, work: &mut W) -> Result<Answer, OutOfMemory>
-        requires session { IsSession self.old }
+        requires session { IsReadyForKey self.old }
         requires takes { takes_at (plain_session self.old).tree (plain_session self.old).stop ≡ true }
         requires fits { is_full name (slots_there (plain_session self.old).tree (plain_session self.old).stop)
             (plain_session self.old).clips ≡ false }
@@ -81,19 +80,25 @@ impl<W: Work> Session<W> {
             (edited (plain_session self.old).tree (plain_session self.old).stop PlainEdit.take)
             (fragment_there (plain_session self.old).tree (plain_session self.old).stop self.old.stop.part))
             self.old self.new result }
-        ensures counts { ChecksAtMost
-            (edit_checks (edited (plain_session self.old).tree (plain_session self.old).stop PlainEdit.take))
-            (W.counts work.old) (W.counts work.new) }
+        ensures counts { CountsOutcome (cut_outcome (plain_session self.old) name
+            (edited (plain_session self.old).tree (plain_session self.old).stop PlainEdit.take)
+            (fragment_there (plain_session self.old).tree (plain_session self.old).stop self.old.stop.part))
+            (W.counts work.old) (W.counts work.new) result }
     {
+        room_is_not_shown();
         room_is_not_clipped();
+        edits_follow();
         self.clips.reserve(&name)?;
+        self.keep_for_run(alloc)?;
         match self.program.take(alloc, &self.stop, work) {
             Ok(taken) => {
                 keep(&mut self.clips, name, taken.fragment);
                 Ok(self.accept_edit(taken.stop))
             }
-            Err(TreeFault::OutOfMemory) => Err(OutOfMemory),
-            Err(fault) => Ok(self.refuse(edit_refusal(fault))),
+            Err(fault) => match fault {
+                TreeFault::OutOfMemory => Err(OutOfMemory),
+                _ => Ok(self.refuse(edit_refusal(fault))),
+            },
         }
     }
 
@@ -104,10 +109,10 @@ impl<W: Work> Session<W> {
         name: &Name,
         work: &mut W,
     ) -> Result<Answer, OutOfMemory>
-        requires session { IsSession self.old }
+        requires session { IsReadyForKey self.old }
         ensures does { Does true (clip_inserted (plain_session self.old) name.now) self.old self.new result }
-        ensures counts { ChecksAtMost (clip_inserted (plain_session self.old) name.now).checks
-            (W.counts work.old) (W.counts work.new) }
+        ensures counts { CountsOutcome (clip_inserted (plain_session self.old) name.now)
+            (W.counts work.old) (W.counts work.new) result }
     {
         clips_are_kept_whole();
         let Some(clip) = self.clips.get(name) else {

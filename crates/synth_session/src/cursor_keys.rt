@@ -5,7 +5,7 @@ ghost use Rattle.cursor_moves.specs.Move.{first_stop, last_stop, moved_to, stop_
 ghost use Rattle.synth_session.specs.CursorKeys.{cursor_goes, cursor_moved};
 ghost use Rattle.synth_session.specs.KeyOutcome.{line_acceptance_outcome, refusal_outcome};
 ghost use Rattle.synth_session.specs.Private.MemorylessKey.{HasOutcome};
-ghost use Rattle.synth_session.specs.SessionView.{IsSession, plain_session};
+ghost use Rattle.synth_session.specs.SessionView.{IsReadyForKey, plain_session};
 
 use crate::answer::{Answer, Refusal};
 use crate::session::Session;
@@ -15,7 +15,7 @@ use plcs_base::Work;
 impl<W: Work> Session<W> {
     /// Does what Up asks for: moves the cursor to an earlier line.
     pub(crate) fn move_up(&mut self) -> Answer
-        requires { IsSession self.old }
+        requires { IsReadyForKey self.old }
         ensures { HasOutcome (cursor_moved (plain_session self.old) stop_up) self.old self.new result }
     {
         let to = up(&self.program.tree, &self.stop);
@@ -24,7 +24,7 @@ impl<W: Work> Session<W> {
 
     /// Does what Down asks for: moves the cursor to a later line.
     pub(crate) fn move_down(&mut self) -> Answer
-        requires { IsSession self.old }
+        requires { IsReadyForKey self.old }
         ensures { HasOutcome (cursor_moved (plain_session self.old) stop_down) self.old self.new result }
     {
         let to = down(&self.program.tree, &self.stop);
@@ -33,7 +33,7 @@ impl<W: Work> Session<W> {
 
     /// Does what Left asks for: moves the cursor to the stop before.
     pub(crate) fn move_left(&mut self) -> Answer
-        requires { IsSession self.old }
+        requires { IsReadyForKey self.old }
         ensures { HasOutcome (cursor_moved (plain_session self.old) stop_left) self.old self.new result }
     {
         let to = left(&self.program.tree, &self.stop);
@@ -42,7 +42,7 @@ impl<W: Work> Session<W> {
 
     /// Does what Right asks for: moves the cursor to the next stop.
     pub(crate) fn move_right(&mut self) -> Answer
-        requires { IsSession self.old }
+        requires { IsReadyForKey self.old }
         ensures { HasOutcome (cursor_moved (plain_session self.old) stop_right) self.old self.new result }
     {
         let to = right(&self.program.tree, &self.stop);
@@ -51,7 +51,7 @@ impl<W: Work> Session<W> {
 
     /// Does what `.top` asks for: moves the cursor to the first stop.
     pub(crate) fn go_to_top(&mut self) -> Answer
-        requires { IsSession self.old }
+        requires { IsReadyForKey self.old }
         ensures { HasOutcome
             (line_acceptance_outcome
             (record (plain_session self.old) { stop = first_stop (plain_session self.old).tree.items }))
@@ -63,7 +63,7 @@ impl<W: Work> Session<W> {
 
     /// Does what `.bottom` asks for: moves the cursor to the last stop.
     pub(crate) fn go_to_bottom(&mut self) -> Answer
-        requires { IsSession self.old }
+        requires { IsReadyForKey self.old }
         ensures { HasOutcome
             (line_acceptance_outcome
             (record (plain_session self.old) { stop = last_stop (plain_session self.old).tree.items }))
@@ -75,7 +75,7 @@ impl<W: Work> Session<W> {
 
     /// Lets the cursor go where a move leads, where nothing is typed.
     fn go(&mut self, to: Move) -> Answer
-        requires session { IsSession self.old }
+        requires session { IsReadyForKey self.old }
         requires stop { IfSome (moved_to to) (IsStop (plain_session self.old).tree.items) }
         ensures { HasOutcome
             (if length self.old.typed.items == 0 then cursor_goes (plain_session self.old) (moved_to to)

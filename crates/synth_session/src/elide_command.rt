@@ -3,23 +3,28 @@ ghost use Rattle.std.specs.Prelude.{◌≡◌};
 ghost use Rattle.template_tree.specs.Edits.Elision.{is_comment};
 ghost use Rattle.synth_session.specs.ElideCommand.{comment_toggled, is_at_comment};
 ghost use Rattle.synth_session.specs.Private.MemorylessKey.{HasOutcome};
-ghost use Rattle.synth_session.specs.SessionView.{IsSession, plain_session};
+ghost use Rattle.synth_session.specs.SessionView.{IsReadyForKey, IsSession, plain_session};
 
 use crate::answer::{Answer, Refusal};
 use crate::session::Session;
 use plcs_base::Work;
 use plcs_grammar::{NodeKind, Template};
+use plcs_store::runs_ignore_room_and_elision;
 use template_tree::room_is_not_shown;
+use tree_steps::edits_follow;
 
 impl<W: Work> Session<W> {
     /// Does what `.elide` asks for: hides the refinement of the comment at the cursor, or shows it again.
     pub(crate) fn toggle_comment(&mut self) -> Answer
-        requires { IsSession self.old }
+        requires { IsReadyForKey self.old }
         ensures { HasOutcome (comment_toggled (plain_session self.old)) self.old self.new result }
     {
         if !self.is_at_comment() {
             return self.refuse(Refusal::NotHere);
         }
+        room_is_not_shown();
+        edits_follow();
+        runs_ignore_room_and_elision();
         self.program.toggle_elision(&self.stop.path);
         self.accept_line()
     }

@@ -1,8 +1,5 @@
 //! What Enter does with the typed line, which is a command or phrase text.
 ghost use Rattle.std.specs.Prelude.{◌≡◌, ◌≤◌, ◌<◌, ◌^◌, IfOk, IsTrue, is_some, length, true};
-ghost use Rattle.std.specs.List.{list_any};
-ghost use Rattle.std.specs.Str.{bytes_eq};
-ghost use Rattle.plcs_base.specs.PlainCounts.{ChecksAtMost};
 ghost use Rattle.plcs_grammar.specs.Canon.{IsWellFormed};
 ghost use Rattle.plcs_grammar.specs.PlainPhrase.{category_of, plain_phrase};
 ghost use Rattle.phrase_parser.specs.Standing.{HasStanding, Standing};
@@ -10,12 +7,13 @@ ghost use Rattle.synth_outside.specs.Files.{PlainFiles};
 ghost use Rattle.session_words.specs.CommandLine.{begins_with_point};
 ghost use Rattle.session_words.specs.PlainCommand.{plain_command};
 ghost use Rattle.session_edit.specs.Here.{category_at};
-ghost use Rattle.synth_session.specs.EnteredLine.{command_line_outcome, command_outcome, is_unbuilt, line_entered, standing_entered, text_entered};
+ghost use Rattle.synth_session.specs.EnteredLine.{command_line_outcome, command_outcome, line_entered, standing_entered, text_entered};
 ghost use Rattle.synth_session.specs.KeyReply.{Reply, Request};
 ghost use Rattle.synth_session.specs.KeyRequest.{command_line_request, command_request, line_request, text_request};
 ghost use Rattle.synth_session.specs.MemoryTaken.{command_line_takes_memory, command_takes_memory, line_takes_memory};
+ghost use Rattle.synth_session.specs.PlainSession.{PlainSession};
 ghost use Rattle.synth_session.specs.Private.Faults.{IsReadOf};
-ghost use Rattle.synth_session.specs.SessionView.{Does, DoesByReply, IsSession, plain_session};
+ghost use Rattle.synth_session.specs.SessionView.{CountsOutcome, Does, DoesByReply, IsReadyForKey, plain_session};
 
 use crate::answer::{Answer, Refusal};
 use crate::session::Session;
@@ -25,7 +23,7 @@ use phrase_parser::{PhraseFault, one_standing, parse};
 use plcs_base::{OutOfMemory, Work};
 use plcs_grammar::{Category, Phrase, shown_len};
 use session_edit::{Edit, wanted};
-use session_words::{Command, CommandFault, begins_with_point, command_word, read_command};
+use session_words::{Command, CommandFault, begins_with_point, read_command};
 use std::alloc::Global;
 use synth_outside::Files;
 use template_tree::{LONGEST_PHRASE, Side};
@@ -38,7 +36,7 @@ impl<W: Work> Session<W> {
         files: &mut F,
         work: &mut W,
     ) -> Result<Answer, OutOfMemory>
-        requires session { IsSession self.old }
+        requires session { IsReadyForKey self.old }
         ensures does { DoesByReply (line_takes_memory (plain_session self.old))
             (line_request (plain_session self.old)) (line_entered (plain_session self.old)) self.old self.new
             (F.told files.old) (F.told files.new) (W.counts work.old) (W.counts work.new) result }
@@ -66,7 +64,7 @@ impl<W: Work> Session<W> {
         files: &mut F,
         work: &mut W,
     ) -> Result<Answer, OutOfMemory>
-        requires session { IsSession self.old }
+        requires session { IsReadyForKey self.old }
         requires line { line.now ≡ self.old.typed.items }
         requires point { IsTrue (begins_with_point line.now) }
         ensures does { DoesByReply (command_line_takes_memory (plain_session self.old))
@@ -74,33 +72,32 @@ impl<W: Work> Session<W> {
             self.old self.new
             (F.told files.old) (F.told files.new) (W.counts work.old) (W.counts work.new) result }
     {
-        if is_unbuilt(line) {
-            return Ok(self.refuse(Refusal::NotBuilt));
-        }
         match read_command(line) {
             Ok(Command::Save(name)) => self.save(name, files),
             Ok(Command::Load(name)) => self.load(alloc, name, files, work),
+            Ok(Command::Step(steps)) => self.step_on(alloc, steps, work),
+            Ok(Command::Resume) => Ok(self.resume()),
             Ok(command) => self.obey(alloc, command, work),
             Err(CommandFault::UnknownCommand) => Ok(self.refuse(Refusal::UnknownCommand)),
             Err(CommandFault::WrongArgument) => Ok(self.refuse(Refusal::WrongArgument)),
         }
     }
 
-    /// Does what a command in the entered line asks for that asks nothing of the files.
+    /// Does what a command in the entered line asks for that asks nothing, in whatever session.
     fn obey(
         &mut self,
         alloc: Global,
         command: Command<'_>,
         work: &mut W,
     ) -> Result<Answer, OutOfMemory>
-        requires session { IsSession self.old }
-        requires unasked { command_request (plain_session self.old) (plain_command command) ≡ Request.Nothing }
+        requires session { IsReadyForKey self.old }
+        requires unasked { (s : PlainSession) → command_request s (plain_command command) ≡ Request.Nothing }
         ensures does { Does (command_takes_memory (plain_session self.old) (plain_command command.entry))
             (command_outcome (plain_session self.old) (plain_command command.entry) Reply.NotAsked)
             self.old self.new result }
-        ensures counts { ChecksAtMost
-            (command_outcome (plain_session self.old) (plain_command command.entry) Reply.NotAsked).checks
-            (W.counts work.old) (W.counts work.new) }
+        ensures counts { CountsOutcome
+            (command_outcome (plain_session self.old) (plain_command command.entry) Reply.NotAsked)
+            (W.counts work.old) (W.counts work.new) result }
     {
         match command {
             Command::Template(template) => self.edit(alloc, Edit::Fill(template), work),
@@ -115,20 +112,19 @@ impl<W: Work> Session<W> {
             Command::Top => Ok(self.go_to_top()),
             Command::Bottom => Ok(self.go_to_bottom()),
             Command::Quit => Ok(Answer::Quit),
-            Command::Save(_) | Command::Load(_) => unreachable!(),
-            Command::Run
-            | Command::Step(_)
-            | Command::Resume
-            | Command::Back(_)
-            | Command::Trace
-            | Command::Input(_)
-            | Command::Code(_) => Ok(self.refuse(Refusal::NotBuilt)),
+            Command::Save(_) | Command::Load(_) | Command::Step(_) | Command::Resume =>
+                unreachable!(),
+            Command::Run => self.run_anew(alloc, work),
+            Command::Back(steps) => Ok(self.go_back(steps)),
+            Command::Trace => Ok(self.turn_trace()),
+            Command::Input(text) => self.add_input(text),
+            Command::Code(from) => Ok(self.show_code(from)),
         }
     }
 
     /// Enters the typed line as phrase text at the cursor. The files aren't asked, whatever they are.
     fn enter_text(&mut self, alloc: Global, work: &mut W) -> Result<Answer, OutOfMemory>
-        requires session { IsSession self.old }
+        requires session { IsReadyForKey self.old }
         ensures does { (files : PlainFiles) →
             DoesByReply (is_some (category_at (plain_session self.old).tree (plain_session self.old).stop))
             (text_request (plain_session self.old)
@@ -152,13 +148,13 @@ impl<W: Work> Session<W> {
         read: Result<Phrase, PhraseFault>,
         work: &mut W,
     ) -> Result<Answer, OutOfMemory>
-        requires session { IsSession self.old }
+        requires session { IsReadyForKey self.old }
         requires sound { IfOk read (λ phrase. IsWellFormed (category_of (plain_phrase phrase)) (plain_phrase phrase)) }
         ensures does { (standing : Standing) → IsReadOf standing read →
             Does true (standing_entered (plain_session self.old) standing) self.old self.new result }
         ensures counts { (standing : Standing) → IsReadOf standing read →
-            ChecksAtMost (standing_entered (plain_session self.old) standing).checks
-            (W.counts work.old) (W.counts work.new) }
+            CountsOutcome (standing_entered (plain_session self.old) standing)
+            (W.counts work.old) (W.counts work.new) result }
     {
         match read {
             Ok(phrase) => {
@@ -181,28 +177,4 @@ fn read_phrase(alloc: Global, category: Category, text: &[u8]) -> Result<Phrase,
 {
     one_standing();
     parse(alloc, category, text)
-}
-
-/// The words of the commands that aren't built yet.
-const UNBUILT_WORDS: [&[u8]; 7] = [
-    b"run", b"step", b"resume", b"back", b"trace", b"input", b"code",
-];
-
-/// Whether Enter refuses the typed line, which begins with a point, since it is a command that isn't built yet.
-#[tactic(auto, unfolding(crate::specs::EnteredLine::is_unbuilt))]
-fn is_unbuilt(line: &[u8]) -> bool
-    requires { IsTrue (begins_with_point line.now) }
-    ensures { result ≡ is_unbuilt line.now }
-{
-    match command_word(line) {
-        Some(word) => is_among(word, &UNBUILT_WORDS),
-        None => false,
-    }
-}
-
-/// Whether the word of the typed line that Enter takes is among these words of commands.
-fn is_among(word: &[u8], words: &[&[u8]]) -> bool
-    ensures { result ≡ list_any (λ listed. bytes_eq word.now listed.now) words.now }
-{
-    words.iter().any(|listed| word == *listed)
 }

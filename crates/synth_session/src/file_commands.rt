@@ -1,6 +1,5 @@
 //! The commands of files, `.save` and `.load`, and the copy that is saved where memory ran out.
 ghost use Rattle.std.specs.Prelude.{◌≡◌, ◌≤◌, codes, true};
-ghost use Rattle.plcs_base.specs.PlainCounts.{ChecksAtMost};
 ghost use Rattle.template_tree.specs.Listings.Listing.{Listing};
 ghost use Rattle.template_tree.specs.Programs.PlainTree.{roomless_tree};
 ghost use Rattle.template_tree.specs.Programs.Tree.{IsTree};
@@ -9,7 +8,7 @@ ghost use Rattle.synth_session.specs.FileCommands.{load_outcome, save_outcome};
 ghost use Rattle.synth_session.specs.KeyReply.{Reply, Request};
 ghost use Rattle.synth_session.specs.Private.MemorylessKey.{HasOutcome};
 ghost use Rattle.synth_session.specs.Private.UncountedKey.{DoesUncounted};
-ghost use Rattle.synth_session.specs.SessionView.{Agrees, Does, DoesByReply, IsSession, plain_session};
+ghost use Rattle.synth_session.specs.SessionView.{Agrees, CountsOutcome, Does, DoesByReply, HasCode, IsReadyForKey, IsSession, plain_session};
 
 use crate::answer::{Answer, Refusal};
 use crate::program::Program;
@@ -30,7 +29,7 @@ impl<W: Work> Session<W> {
         name: &[u8],
         files: &mut F,
     ) -> Result<Answer, OutOfMemory>
-        requires { IsSession self.old }
+        requires { IsReadyForKey self.old }
         ensures { DoesUncounted true (Request.Save name.now (Listing (plain_session self.old).tree.items))
             (save_outcome (plain_session self.old)) self.old self.new
             (F.told files.old) (F.told files.new) result }
@@ -53,7 +52,7 @@ impl<W: Work> Session<W> {
         files: &mut F,
         work: &mut W,
     ) -> Result<Answer, OutOfMemory>
-        requires session { IsSession self.old }
+        requires session { IsReadyForKey self.old }
         ensures does { DoesByReply true (Request.Load name.now)
             (load_outcome (plain_session self.old)) self.old self.new
             (F.told files.old) (F.told files.new) (W.counts work.old) (W.counts work.new) result }
@@ -77,12 +76,12 @@ impl<W: Work> Session<W> {
         tree: Tree,
         work: &mut W,
     ) -> Result<Answer, OutOfMemory>
-        requires session { IsSession self.old }
+        requires session { IsReadyForKey self.old }
         requires tree { IsTree tree }
         ensures does { Does true (load_outcome (plain_session self.old) (Reply.Loaded (roomless_tree tree)))
             self.old self.new result }
-        ensures counts { ChecksAtMost (load_outcome (plain_session self.old) (Reply.Loaded (roomless_tree tree))).checks
-            (W.counts work.old) (W.counts work.new) }
+        ensures counts { CountsOutcome (load_outcome (plain_session self.old) (Reply.Loaded (roomless_tree tree)))
+            (W.counts work.old) (W.counts work.new) result }
     {
         match Program::new(alloc, tree, work) {
             Ok(program) => Ok(self.begin_with(program)),
@@ -93,13 +92,15 @@ impl<W: Work> Session<W> {
     /// Begins with the program that the command `.load` has loaded, in place of the one that is edited, with
     /// the cursor at main.
     fn begin_with(&mut self, program: Program<W>) -> Answer
-        requires session { IsSession self.old }
+        requires session { IsReadyForKey self.old }
         requires agrees { Agrees program }
+        requires code { HasCode program }
         ensures { HasOutcome (load_outcome (plain_session self.old) (Reply.Loaded (roomless_tree program.tree)))
             self.old self.new result }
     {
         self.stop = top(&program.tree);
         self.program = program;
+        self.run.end();
         self.top = 0;
         self.accept_line()
     }

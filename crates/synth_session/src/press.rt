@@ -1,10 +1,10 @@
 //! Keys pressed in a session, and the laws of refused keys and of phrase text.
 ghost use Rattle.std.specs.Prelude.{◌≡◌, ◌≤◌};
-ghost use Rattle.synth_session.specs.KeyReply.{TextsHaveOneReply};
+ghost use Rattle.synth_session.specs.KeyReply.{RunsHaveOneReply, TextsHaveOneReply};
 ghost use Rattle.synth_session.specs.KeyRequest.{request};
 ghost use Rattle.synth_session.specs.MemoryTaken.{key_takes_memory};
-ghost use Rattle.synth_session.specs.Press.{RefusedKeysChangeTheMessage, RefusedKeysCheckNothing, press};
-ghost use Rattle.synth_session.specs.SessionView.{DoesByReply, IsSession, plain_session};
+ghost use Rattle.synth_session.specs.Press.{RefusedKeysChangeTheMessage, RefusedKeysCostNothing, RunningKeysHaveRuns, StillKeysFetchNothing, key_outcome, press};
+ghost use Rattle.synth_session.specs.SessionView.{DoesByReply, IsReadyForKey, plain_session};
 
 use crate::answer::{Answer, Refusal};
 use crate::key::Key;
@@ -25,9 +25,31 @@ impl<W: Work> Session<W> {
         files: &mut F,
         work: &mut W,
     ) -> Result<Answer, OutOfMemory>
-        requires { IsSession self.old }
+        requires { IsReadyForKey self.old }
         ensures pressed { DoesByReply (key_takes_memory (plain_session self.old) key)
             (request (plain_session self.old) key) (press (plain_session self.old) key) self.old self.new
+            (F.told files.old) (F.told files.new) (W.counts work.old) (W.counts work.new) result }
+    {
+        let shown = self.code_from;
+        self.code_from = None;
+        let answer = self.press_plain(alloc, key, files, work);
+        if let Err(OutOfMemory) = answer {
+            self.code_from = shown;
+        }
+        answer
+    }
+
+    /// Does what a key asks for in a session that shows no code.
+    fn press_plain<F: Files>(
+        &mut self,
+        alloc: Global,
+        key: Key,
+        files: &mut F,
+        work: &mut W,
+    ) -> Result<Answer, OutOfMemory>
+        requires ready { IsReadyForKey self.old }
+        ensures pressed { DoesByReply (key_takes_memory (plain_session self.old) key)
+            (request (plain_session self.old) key) (key_outcome (plain_session self.old) key) self.old self.new
             (F.told files.old) (F.told files.new) (W.counts work.old) (W.counts work.new) result }
     {
         match key {
@@ -46,10 +68,22 @@ impl<W: Work> Session<W> {
 }
 
 /// The law of refused keys: such a key changes the message alone, but for a display of code, which it ends, and
-/// nothing is checked in it, whatever is replied.
+/// nothing is counted in it, whatever is replied.
 pub fn refused_keys_change_the_message()
     ensures message { RefusedKeysChangeTheMessage }
-    ensures checks { RefusedKeysCheckNothing }
+    ensures work { RefusedKeysCostNothing }
+{}
+
+/// The law of keys in which the run goes on: then a run stands, and its key made no more steps than it asks for. No
+/// instruction is fetched in any other key.
+pub fn running_keys_have_runs()
+    ensures runs { RunningKeysHaveRuns }
+    ensures still { StillKeysFetchNothing }
+{}
+
+/// The law of resumption: at most one thing can be replied to whether a run may go on.
+pub fn runs_have_one_reply()
+    ensures { RunsHaveOneReply }
 {}
 
 /// The law of phrase text: exactly one thing can be replied to a text in a category, which is what it is there.

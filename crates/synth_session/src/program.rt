@@ -9,23 +9,28 @@ ghost use Rattle.template_tree.specs.Positions.Stop.{IsStop, plain_stop};
 ghost use Rattle.template_tree.specs.Programs.Tree.{IsTree};
 ghost use Rattle.template_tree.specs.Checks.Marks.{Verdicts};
 ghost use Rattle.decl_table.specs.Agreement.{IsDeclsOf};
+ghost use Rattle.tree_steps.specs.EditStep.{CameByEdits};
 ghost use Rattle.session_edit.specs.Edited.{Edited, edited};
 ghost use Rattle.session_edit.specs.Here.{takes_at};
 ghost use Rattle.session_edit.specs.PlainEdit.{BringsWhatMayStand, PlainEdit, plain_edit};
 ghost use Rattle.synth_session.specs.CheckedPhrases.{phrase_count};
-ghost use Rattle.synth_session.specs.SessionView.{Agrees, DependOn};
-ghost use Rattle.synth_session.specs.Private.Faults.{IsEditFault, edit_checks};
+ghost use Rattle.synth_session.specs.CountedKey.{CountsProgram};
+ghost use Rattle.synth_session.specs.ProgramCode.{code_length, code_of};
+ghost use Rattle.synth_session.specs.SessionView.{Agrees, DependOn, HasCode};
+ghost use Rattle.synth_session.specs.Private.Faults.{CountsEdit, IsEditFault};
 ghost use Rattle.synth_session.specs.Private.TakenFragment.{TakesOutFragment};
 
 use crate::clip_commands::copy_phrase_at;
 use clip_store::Fragment;
 use decl_table::Decls;
 use plcs_base::{OutOfMemory, Work};
-use session_edit::{Applied, Edit, apply};
+use plcs_code::{FlatCode, generate, programs_have_one_code};
+use session_edit::{Applied, Edit, apply, edits_at_stops_are_steps};
 use std::alloc::Global;
 use template_tree::{
     Change, Node, Path, Stop, Tree, TreeFault, checks_ignore_room_and_elision, room_is_not_shown,
 };
+use tree_steps::edits_follow;
 use type_marks::Marks;
 use unparse_layout::{Layout, layouts_ignore_room};
 
@@ -36,12 +41,13 @@ pub struct Program<W> {
     pub dependents: Dependents<W>,
 }
 
-/// All that depends on a program: its layout, its table of declarations, and its verdicts.
+/// All that depends on a program: its layout, its table of declarations, its verdicts, and its code.
 #[derive(Drop)]
 pub struct Dependents<W> {
     pub layout: Layout<W>,
     pub decls: Decls,
     pub marks: Marks<W>,
+    pub code: FlatCode<W>,
 }
 
 /// What an edit of the program leaves: where the cursor stands, the node that was taken out, if one was, and
@@ -83,7 +89,8 @@ impl<W: Work> Program<W> {
         requires tree { IsTree tree }
         ensures agrees { IfOk result (λ program. Agrees program) }
         ensures tree { IfOk result (λ program. program.tree ≡ tree) }
-        ensures counts { ChecksAtMost (phrase_count (roomless_tree tree))
+        ensures code { IfOk result HasCode }
+        ensures counts { CountsProgram (phrase_count (roomless_tree tree)) (code_length (roomless_tree tree))
             (W.counts work.old) (W.counts work.new) }
     {
         let dependents = Dependents::of(alloc, &tree, work)?;
@@ -103,19 +110,23 @@ impl<W: Work> Program<W> {
         requires stop { IsStop (roomless_tree self.old.tree).items (plain_stop at.now) }
         requires edit { BringsWhatMayStand edit }
         ensures agrees { Agrees self.new }
+        ensures code { HasCode self.old → HasCode self.new }
         ensures became { IfOk result (λ changed.
             edited (roomless_tree self.old.tree) (plain_stop at.now) (plain_edit edit)
             ≡ Edited.became (roomless_tree self.new.tree) (plain_stop changed.stop)
             (option_map roomless_node changed.taken) changed.change.what changed.change.slot.0) }
         ensures stop { IfOk result (λ changed. IsStop (roomless_tree self.new.tree).items (plain_stop changed.stop)) }
         ensures taken { IfOk result (λ changed. IfSome changed.taken IsSubtree) }
+        ensures came { IfOk result (λ _. CameByEdits (roomless_tree self.old.tree) (roomless_tree self.new.tree)) }
         ensures refused { IfErr result
             (IsEditFault (edited (roomless_tree self.old.tree) (plain_stop at.now) (plain_edit edit))) }
         ensures same { IfErr result (λ _. roomless_tree self.new.tree ≡ roomless_tree self.old.tree) }
-        ensures counts { ChecksAtMost
-            (edit_checks (edited (roomless_tree self.old.tree) (plain_stop at.now) (plain_edit edit)))
+        ensures counts { CountsEdit (edited (roomless_tree self.old.tree) (plain_stop at.now) (plain_edit edit))
             (W.counts work.old) (W.counts work.new) }
     {
+        room_is_not_shown();
+        edits_follow();
+        edits_at_stops_are_steps();
         let applied = apply(alloc, &mut self.tree, at, edit)?;
         match self.renew(alloc, work) {
             Ok(()) => Ok(Changed::by(applied)),
@@ -135,7 +146,8 @@ impl<W: Work> Program<W> {
         ensures depend { IfOk result (λ _. DependOn self.new.dependents self.old.tree) }
         ensures tree { self.new.tree ≡ self.old.tree }
         ensures same { IfErr result (λ _. self.new.dependents ≡ self.old.dependents) }
-        ensures counts { ChecksAtMost (phrase_count (roomless_tree self.old.tree))
+        ensures code { IfOk result (λ _. HasCode self.new) }
+        ensures counts { CountsProgram (phrase_count (roomless_tree self.old.tree)) (code_length (roomless_tree self.old.tree))
             (W.counts work.old) (W.counts work.new) }
     {
         let dependents = Dependents::of(alloc, &self.tree, work)?;
@@ -163,8 +175,9 @@ impl<W: Work> Program<W> {
         requires stop { IsStop (roomless_tree self.old.tree).items (plain_stop at.now) }
         requires taken { takes_at (roomless_tree self.old.tree) (plain_stop at.now) ≡ true }
         ensures taken { TakesOutFragment self.old self.new at.now result }
-        ensures counts { ChecksAtMost
-            (edit_checks (edited (roomless_tree self.old.tree) (plain_stop at.now) PlainEdit.take))
+        ensures code { HasCode self.old → HasCode self.new }
+        ensures came { IfOk result (λ _. CameByEdits (roomless_tree self.old.tree) (roomless_tree self.new.tree)) }
+        ensures counts { CountsEdit (edited (roomless_tree self.old.tree) (plain_stop at.now) PlainEdit.take)
             (W.counts work.old) (W.counts work.new) }
     {
         match at.part {
@@ -181,8 +194,9 @@ impl<W: Work> Program<W> {
         requires node { at.now.part ≡ None }
         requires taken { takes_at (roomless_tree self.old.tree) (plain_stop at.now) ≡ true }
         ensures taken { TakesOutFragment self.old self.new at.now result }
-        ensures counts { ChecksAtMost
-            (edit_checks (edited (roomless_tree self.old.tree) (plain_stop at.now) PlainEdit.take))
+        ensures code { HasCode self.old → HasCode self.new }
+        ensures came { IfOk result (λ _. CameByEdits (roomless_tree self.old.tree) (roomless_tree self.new.tree)) }
+        ensures counts { CountsEdit (edited (roomless_tree self.old.tree) (plain_stop at.now) PlainEdit.take)
             (W.counts work.old) (W.counts work.new) }
     {
         let Changed { stop, taken, .. } = self.change(alloc, at, Edit::Take, work)?;
@@ -202,8 +216,9 @@ impl<W: Work> Program<W> {
         requires part { IsSome at.now.part }
         requires taken { takes_at (roomless_tree self.old.tree) (plain_stop at.now) ≡ true }
         ensures taken { TakesOutFragment self.old self.new at.now result }
-        ensures counts { ChecksAtMost
-            (edit_checks (edited (roomless_tree self.old.tree) (plain_stop at.now) PlainEdit.take))
+        ensures code { HasCode self.old → HasCode self.new }
+        ensures came { IfOk result (λ _. CameByEdits (roomless_tree self.old.tree) (roomless_tree self.new.tree)) }
+        ensures counts { CountsEdit (edited (roomless_tree self.old.tree) (plain_stop at.now) PlainEdit.take)
             (W.counts work.old) (W.counts work.new) }
     {
         let Some(phrase) = copy_phrase_at(alloc, &self.tree, at)? else {
@@ -221,10 +236,12 @@ impl<W: Work> Program<W> {
     pub(crate) fn toggle_elision(&mut self, path: &Path)
         requires agrees { Agrees self.old }
         ensures agrees { Agrees self.new }
+        ensures code { HasCode self.old → HasCode self.new }
         ensures turned { roomless_tree self.new.tree ≡ with_toggled_at path.now.items (roomless_tree self.old.tree) }
     {
         room_is_not_shown();
         checks_ignore_room_and_elision();
+        programs_have_one_code();
         // Whether it is hidden now, no key tells.
         let _ = self.tree.elide(path);
         self.dependents.layout.elided(&self.tree, path);
@@ -247,15 +264,19 @@ impl<W: Work> Dependents<W> {
     fn of(alloc: Global, tree: &Tree, work: &mut W) -> Result<Dependents<W>, OutOfMemory>
         requires tree { IsTree tree.now }
         ensures depend { IfOk result (λ dependents. DependOn dependents tree.now) }
-        ensures counts { ChecksAtMost (phrase_count (roomless_tree tree.now))
+        ensures code { IfOk result (λ dependents. dependents.code ≡ code_of (roomless_tree tree.now)) }
+        ensures counts { CountsProgram (phrase_count (roomless_tree tree.now)) (code_length (roomless_tree tree.now))
             (W.counts work.old) (W.counts work.new) }
     {
+        programs_have_one_code();
         let layout = Layout::new(alloc, tree)?;
         let (decls, marks) = checked(alloc, tree, work)?;
+        let code = generate(alloc, tree, &marks, &decls, work)?;
         Ok(Dependents {
             layout,
             decls,
             marks,
+            code,
         })
     }
 }

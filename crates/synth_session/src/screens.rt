@@ -1,5 +1,5 @@
 //! The two screens of a session: the one that is shown, and the one that is shown next.
-ghost use Rattle.std.specs.Prelude.{◌≡◌, ◌+◌, ◌≤◌, ◌<◌, ◌^◌, IfOk, OnErr, OnOk};
+ghost use Rattle.std.specs.Prelude.{◌≡◌, ◌+◌, ◌-◌, ◌≤◌, ◌<◌, ◌^◌, IfOk, OnErr, OnOk};
 ghost use Rattle.plcs_base.specs.PlainCounts.{LaysAtMost};
 ghost use Rattle.template_tree.specs.Programs.Tree.{IsTree};
 ghost use Rattle.unparse_layout.specs.Agreement.{IsLayoutOf};
@@ -8,7 +8,7 @@ ghost use Rattle.screen_window.specs.PlainGrid.{blank_grid};
 ghost use Rattle.screen_window.specs.Screen.{Screen, window_rows};
 ghost use Rattle.screen_window.specs.View.{plain_view};
 ghost use Rattle.screen_window.specs.Writes.{Writes};
-ghost use Rattle.screen_window.specs.declared.limit.TheConstants.{MOST_ROWS};
+ghost use Rattle.screen_window.specs.declared.limit.TheConstants.{MOST_ROWS, OTHER_ROWS};
 
 use crate::size::ScreenSize;
 use plcs_base::{Marked, OutOfMemory, Work};
@@ -53,6 +53,7 @@ impl Screens {
     pub(crate) fn window_rows(&self) -> u16
         ensures rows { result ≡ window_rows self.now.shown.rows }
         ensures least { 1 ≤ result }
+        ensures most { result ≤ MOST_ROWS - OTHER_ROWS }
     {
         self.shown.rows() - OTHER_ROWS
     }

@@ -1,7 +1,6 @@
 //! The session: the program that is edited, with the cursor, the window, the typed line, the clips and the
 //! program's input.
 ghost use Rattle.std.specs.Prelude.{◌≡◌, ◌≤◌, [], ◌∷◌, None, IfOk, IfSome, length, option_map};
-ghost use Rattle.plcs_base.specs.PlainCounts.{ChecksAtMost};
 ghost use Rattle.plcs_base.specs.Put.{PutsAll};
 ghost use Rattle.template_tree.specs.Listings.Listing.{Listing};
 ghost use Rattle.template_tree.specs.Programs.PlainTree.{roomless_tree};
@@ -12,13 +11,19 @@ ghost use Rattle.template_tree.specs.Programs.NewTree.{new_tree};
 ghost use Rattle.file_store.specs.Limit.{longest_input};
 ghost use Rattle.screen_window.specs.PlainGrid.{blank_grid};
 ghost use Rattle.synth_session.specs.CheckedPhrases.{phrase_count};
+ghost use Rattle.synth_session.specs.CountedKey.{CountsProgram};
+ghost use Rattle.synth_session.specs.ProgramCode.{code_length};
 ghost use Rattle.synth_session.specs.KeyOutcome.{acceptance_outcome, line_acceptance_outcome, line_notice_outcome, refusal_outcome};
 ghost use Rattle.synth_session.specs.OpenedSession.{opened_session, session_over, stop_at_first, tree_at_first};
 ghost use Rattle.synth_session.specs.RefusalText.{refusal_text};
+ghost use Rattle.synth_session.specs.SessionScreen.{run_output};
+ghost use Rattle.synth_session.specs.Window.{with_cursor_seen};
 ghost use Rattle.synth_session.specs.Private.MemorylessKey.{HasOutcome};
-ghost use Rattle.synth_session.specs.SessionView.{Agrees, IsPlaced, IsSession, next_grid, plain_session, shown_grid};
+ghost use Rattle.synth_session.specs.SessionView.{Agrees, HasFittingRun, HasProgramCode, IsPlaced, IsReadyForKey, IsSession, next_grid, plain_session, shown_grid};
 
 use crate::answer::{Answer, Refusal};
+use crate::code_rows::CodeRows;
+use crate::held_run::HeldRun;
 use crate::program::Program;
 use crate::program_input::ProgramInput;
 use crate::screens::Screens;
@@ -43,8 +48,14 @@ pub struct Session<W> {
     pub(crate) typed: ArrayVec<u8, LINE_LIMIT>,
     pub(crate) clips: Clips,
     pub(crate) input: ProgramInput,
+    pub(crate) trace: bool,
     pub(crate) message: Option<Message>,
+    pub(crate) code_from: Option<u32>,
+    pub(crate) run: HeldRun,
+    pub(crate) asked: u32,
+    pub(crate) made: u32,
     pub(crate) screens: Screens,
+    pub(crate) code_rows: CodeRows,
 }
 
 impl<W: Work> Session<W> {
@@ -61,13 +72,13 @@ impl<W: Work> Session<W> {
     ) -> Result<Session<W>, OutOfMemory>
         requires tree { IfSome tree IsTree }
         requires input { length input.items ≤ longest_input }
-        ensures session { IfOk result (λ session. IsSession session) }
+        ensures session { IfOk result (λ session. IsReadyForKey session) }
         ensures opened { IfOk result (λ session.
             plain_session session ≡ opened_session size (option_map roomless_tree tree) input.items) }
         ensures shown { IfOk result (λ session. shown_grid session ≡ blank_grid size.rows size.cols) }
         ensures next { IfOk result (λ session. next_grid session ≡ blank_grid size.rows size.cols) }
-        ensures counts { ChecksAtMost (phrase_count (tree_at_first (option_map roomless_tree tree)))
-            (W.counts work.old) (W.counts work.new) }
+        ensures counts { CountsProgram (phrase_count (tree_at_first (option_map roomless_tree tree)))
+            (code_length (tree_at_first (option_map roomless_tree tree))) (W.counts work.old) (W.counts work.new) }
     {
         match tree {
             Some(tree) => {
@@ -93,37 +104,19 @@ impl<W: Work> Session<W> {
         requires tree { IsTree tree }
         requires stop { IsStop (roomless_tree tree).items (plain_stop stop) }
         requires input { length input.items ≤ longest_input }
-        ensures session { IfOk result (λ session. IsSession session) }
+        ensures session { IfOk result (λ session. IsReadyForKey session) }
         ensures opened { IfOk result (λ session.
             plain_session session ≡ session_over size (roomless_tree tree) (plain_stop stop) input.items) }
         ensures shown { IfOk result (λ session. shown_grid session ≡ blank_grid size.rows size.cols) }
         ensures next { IfOk result (λ session. next_grid session ≡ blank_grid size.rows size.cols) }
-        ensures counts { ChecksAtMost (phrase_count (roomless_tree tree))
+        ensures counts { CountsProgram (phrase_count (roomless_tree tree)) (code_length (roomless_tree tree))
             (W.counts work.old) (W.counts work.new) }
     {
+        let screens = Screens::new(alloc, size)?;
+        let code_rows = CodeRows::new(alloc)?;
+        let run = HeldRun::new(alloc)?;
+        let clips = Clips::new(alloc)?;
         let program = Program::new(alloc, tree, work)?;
-        Session::around(alloc, size, program, stop, input)
-    }
-
-    /// A session in which this program is edited, with the cursor at the stop, and with this input of the
-    /// program.
-    fn around(
-        alloc: Global,
-        size: ScreenSize,
-        program: Program<W>,
-        stop: Stop,
-        input: Vec<u8>,
-    ) -> Result<Session<W>, OutOfMemory>
-        requires agrees { Agrees program }
-        requires stop { IsStop (roomless_tree program.tree).items (plain_stop stop) }
-        requires input { length input.items ≤ longest_input }
-        ensures session { IfOk result (λ session. IsSession session) }
-        ensures opened { IfOk result (λ session.
-            plain_session session ≡ session_over size (roomless_tree program.tree) (plain_stop stop) input.items) }
-        ensures shown { IfOk result (λ session. shown_grid session ≡ blank_grid size.rows size.cols) }
-        ensures next { IfOk result (λ session. next_grid session ≡ blank_grid size.rows size.cols) }
-    {
-        let (screens, clips) = screens_and_clips(alloc, size)?;
         let mut session = Session {
             program,
             stop,
@@ -131,8 +124,14 @@ impl<W: Work> Session<W> {
             typed: ArrayVec::new(),
             clips,
             input: ProgramInput::new(input),
+            trace: false,
             message: None,
+            code_from: None,
+            run,
+            asked: 0,
+            made: 0,
             screens,
+            code_rows,
         };
         // No key was pressed that this could answer: the window comes to follow the cursor.
         let _ = session.accept();
@@ -148,6 +147,20 @@ impl<W: Work> Session<W> {
         self.program.tree.slots()
     }
 
+    /// How many steps the newest key of a run made, and 0 before the first one. It takes no memory.
+    pub fn steps(&self) -> u32
+        ensures { result ≡ (plain_session self.now).made }
+    {
+        self.made
+    }
+
+    /// What the run wrote, or nothing where none stands. It takes no memory.
+    pub fn output(&self) -> &[u8]
+        ensures { result.now ≡ run_output (plain_session self.now).run }
+    {
+        self.run.output()
+    }
+
     /// Puts the listing of the session's program, with elided refinements too. It takes no memory.
     pub fn listing<O: ByteOut>(&self, out: &mut O)
         requires { IsSession self.now }
@@ -161,6 +174,7 @@ impl<W: Work> Session<W> {
     pub fn show_message(&mut self, refusal: Refusal)
         requires { IsSession self.old }
         ensures session { IsSession self.new }
+        ensures ready { IsReadyForKey self.old → IsReadyForKey self.new }
         ensures message { plain_session self.new ≡ record (plain_session self.old) { message = refusal_text refusal } }
         ensures shown { shown_grid self.new ≡ shown_grid self.old }
         ensures next { next_grid self.new ≡ next_grid self.old }
@@ -172,7 +186,7 @@ impl<W: Work> Session<W> {
 impl<W: Work> Session<W> {
     /// Refuses a key of the session, which changes the message alone.
     pub(crate) fn refuse(&mut self, why: Refusal) -> Answer
-        requires { IsSession self.old }
+        requires { IsReadyForKey self.old }
         ensures { HasOutcome (refusal_outcome (plain_session self.old) why) self.old self.new result }
     {
         self.message = why.message();
@@ -183,7 +197,24 @@ impl<W: Work> Session<W> {
     pub(crate) fn accept(&mut self) -> Answer
         requires agrees { Agrees self.old.program }
         requires placed { IsPlaced (plain_session self.old) }
+        requires code { HasProgramCode self.old }
+        requires run { HasFittingRun self.old }
         ensures { HasOutcome (acceptance_outcome (plain_session self.old)) self.old self.new result }
+    {
+        self.follow();
+        self.message = None;
+        Answer::Done
+    }
+
+    /// Lets the window of the session follow the cursor.
+    pub(crate) fn follow(&mut self)
+        requires agrees { Agrees self.old.program }
+        requires placed { IsPlaced (plain_session self.old) }
+        ensures session { IsSession self.new }
+        ensures seen { plain_session self.new ≡ with_cursor_seen (plain_session self.old) }
+        ensures program { self.new.program ≡ self.old.program }
+        ensures run { self.new.run ≡ self.old.run }
+        ensures screens { self.new.screens ≡ self.old.screens }
     {
         let line = self
             .program
@@ -191,14 +222,14 @@ impl<W: Work> Session<W> {
             .layout
             .line_of(&self.program.tree, &self.stop);
         self.top = top_showing(self.screens.window_rows(), self.top, line);
-        self.message = None;
-        Answer::Done
     }
 
     /// Accepts a key of the session that took the whole typed line.
     pub(crate) fn accept_line(&mut self) -> Answer
         requires agrees { Agrees self.old.program }
         requires placed { IsPlaced (plain_session self.old) }
+        requires code { HasProgramCode self.old }
+        requires run { HasFittingRun self.old }
         ensures { HasOutcome (line_acceptance_outcome (plain_session self.old)) self.old self.new result }
     {
         self.typed.clear();
@@ -209,6 +240,8 @@ impl<W: Work> Session<W> {
     pub(crate) fn accept_line_with(&mut self, notice: Notice) -> Answer
         requires agrees { Agrees self.old.program }
         requires placed { IsPlaced (plain_session self.old) }
+        requires code { HasProgramCode self.old }
+        requires run { HasFittingRun self.old }
         ensures { HasOutcome (line_notice_outcome (plain_session self.old) notice) self.old self.new result }
     {
         let answer = self.accept_line();
@@ -217,18 +250,7 @@ impl<W: Work> Session<W> {
     }
 }
 
-/// The screens of a session at first, of this size and blank, and its clips, of which there are none.
-fn screens_and_clips(alloc: Global, size: ScreenSize) -> Result<(Screens, Clips), OutOfMemory>
-    ensures shown { IfOk result (λ pair. pair.0.shown ≡ blank_grid size.rows size.cols) }
-    ensures next { IfOk result (λ pair. pair.0.next ≡ blank_grid size.rows size.cols) }
-    ensures clips { IfOk result (λ pair. pair.1.pairs ≡ []) }
-{
-    let screens = Screens::new(alloc, size)?;
-    let clips = Clips::new(alloc)?;
-    Ok((screens, clips))
-}
-
-/// The program that is edited in a session from its beginning: a new one.
+/// The new program with which a session is opened.
 fn new_tree(alloc: Global) -> Result<Tree, OutOfMemory>
     ensures tree { IfOk result IsTree }
     ensures new { IfOk result (λ tree. roomless_tree tree ≡ new_tree) }

@@ -1,5 +1,5 @@
 //! The screen of a session, with the prompt, drawn and painted.
-ghost use Rattle.std.specs.Prelude.{◌≡◌, ◌+◌, ◌*◌, ◌≤◌, ◌++◌, [], None, length, OnErr, OnOk};
+ghost use Rattle.std.specs.Prelude.{◌≡◌, ◌+◌, ◌*◌, ◌≤◌, ◌++◌, IfSome, length, map, option_map, take, OnErr, OnOk};
 ghost use Rattle.arrayvec.specs.ArrayVec.{array_vec_len};
 ghost use Rattle.plcs_base.specs.PlainCounts.{LaysAtMost};
 ghost use Rattle.template_tree.specs.Checks.Marks.{Marks};
@@ -7,19 +7,22 @@ ghost use Rattle.template_tree.specs.Programs.PlainTree.{roomless_tree};
 ghost use Rattle.template_tree.specs.Programs.Limit.{most_slots};
 ghost use Rattle.template_tree.specs.Positions.Stop.{IsStop, plain_stop};
 ghost use Rattle.template_tree.specs.Programs.Tree.{IsTree};
+ghost use Rattle.plcs_machine.specs.Fetched.{FetchesBy};
 ghost use Rattle.screen_window.specs.Paint.{Paint};
 ghost use Rattle.screen_window.specs.Screen.{Screen, window_rows};
 ghost use Rattle.screen_window.specs.Writes.{Writes};
 ghost use Rattle.synth_session.specs.declared.session_screen.TheConstants.{LONGEST_PROMPT};
+ghost use Rattle.synth_session.specs.CountedKey.{CountsScreen};
 ghost use Rattle.synth_session.specs.RefusalText.{shown_message};
-ghost use Rattle.synth_session.specs.SessionScreen.{grid, prompt, sort_word, word_at};
-ghost use Rattle.synth_session.specs.SessionView.{Agrees, IsSession, next_grid, plain_session, shown_grid};
+ghost use Rattle.synth_session.specs.SessionScreen.{grid, prompt, screen_fetches, shown_code, sort_word, word_at};
+ghost use Rattle.synth_session.specs.SessionView.{Agrees, HasProgramCode, IsReadyForKey, IsSession, next_grid, plain_session, shown_grid};
 
+use crate::code_command::code_span;
 use crate::program::Program;
 use crate::screens::Screens;
 use crate::session::Session;
 use arrayvec::ArrayVec;
-use plcs_base::Work;
+use plcs_base::{Place, Work};
 use plcs_grammar::Sort;
 use screen_window::View;
 use session_edit::wanted;
@@ -32,32 +35,59 @@ impl<W: Work> Session<W> {
     /// the window has rows.
     #[tactic(auto, unfolding(crate::specs::SessionScreen::grid))]
     pub fn draw(&mut self, work: &mut W)
-        requires { IsSession self.old }
+        requires session { IsSession self.old }
+        requires code { HasProgramCode self.old }
         ensures session { IsSession self.new }
+        ensures program { self.new.program ≡ self.old.program }
+        ensures run { self.new.run ≡ self.old.run }
         ensures next { next_grid self.new ≡ grid (plain_session self.old) }
         ensures shown { shown_grid self.new ≡ shown_grid self.old }
         ensures same { plain_session self.new ≡ plain_session self.old }
-        ensures counts { LaysAtMost (window_rows (plain_session self.old).size.rows)
-            (W.counts work.old) (W.counts work.new) }
+        ensures counts { CountsScreen (window_rows (plain_session self.old).size.rows)
+            (screen_fetches (plain_session self.old)) (W.counts work.old) (W.counts work.new) }
     {
         let prompt = prompt(&self.program.tree, &self.stop);
         let text = shown_text(self.message);
+        let shown = self.shown_code(work);
         draw_on(
             &mut self.screens,
             &self.program,
             &self.stop,
             self.top,
+            self.run.shown_place(),
+            self.run.output(),
             text.as_bytes(),
             prompt.as_slice(),
             self.typed.as_slice(),
+            self.code_rows.first(shown),
             work,
         );
+    }
+
+    /// Fills the rows of code that the session shows, and tells how many there are, if code is shown.
+    fn shown_code(&mut self, work: &mut W) -> Option<usize>
+        requires session { IsSession self.old }
+        requires code { HasProgramCode self.old }
+        ensures rows { option_map (λ count. take count self.new.code_rows) result ≡ shown_code (plain_session self.old) }
+        ensures few { IfSome result (λ count. count ≤ length self.new.code_rows) }
+        ensures same { plain_session self.new ≡ plain_session self.old }
+        ensures program { self.new.program ≡ self.old.program }
+        ensures run { self.new.run ≡ self.old.run }
+        ensures screens { self.new.screens ≡ self.old.screens }
+        ensures counted { FetchesBy (screen_fetches (plain_session self.old)) (W.counts work.old) (W.counts work.new) }
+    {
+        let from = self.code_from?;
+        let rows = self.screens.window_rows();
+        let (start, count) = code_span(&self.program, &self.stop);
+        let code = &self.program.dependents.code;
+        Some(self.code_rows.fill(code, start, count, from, rows, work))
     }
 
     /// Paints the session's screen that was drawn last over the one that was painted last.
     pub fn paint<K: Sink>(&mut self, sink: &mut K) -> Result<(), SinkFault>
         requires { IsSession self.old }
         ensures session { IsSession self.new }
+        ensures ready { IsReadyForKey self.old → IsReadyForKey self.new }
         ensures wrote { Writes (Paint (shown_grid self.old) (next_grid self.old)) result
             (K.taken sink.old) (K.taken sink.new)
             (K.faults sink.old) (K.faults sink.new) (K.wants sink.old) (K.wants sink.new) }
@@ -86,9 +116,12 @@ fn draw_on<'a, W: Work>(
     program: &'a Program<W>,
     stop: &'a Stop,
     top: u32,
+    run_place: Option<Place>,
+    output: &'a [u8],
     message: &'a [u8],
     prompt: &'a [u8],
     typed: &'a [u8],
+    code: Option<&'a [Vec<u8>]>,
     work: &mut W,
 )
     requires agrees { Agrees program.now }
@@ -98,12 +131,12 @@ fn draw_on<'a, W: Work>(
       marks = Marks (roomless_tree program.entry.now.tree).items;
       stop = plain_stop stop.entry.now;
       top = top;
-      run_place = None;
-      output = [];
+      run_place = run_place;
+      output = output.entry.now;
       message = message.entry.now;
       prompt = prompt.entry.now;
       typed = typed.entry.now;
-      code = None;
+      code = option_map (λ rows. map (λ text. text.items) rows.now) code.entry;
     }) }
     ensures shown { screens.new.shown ≡ screens.old.shown }
     ensures counts { LaysAtMost (window_rows screens.old.shown.rows) (W.counts work.old) (W.counts work.new) }
@@ -115,12 +148,12 @@ fn draw_on<'a, W: Work>(
         marks: &program.dependents.marks,
         stop,
         top,
-        run_place: None,
-        output: b"",
+        run_place,
+        output,
         message,
         prompt,
         typed,
-        code: None,
+        code,
     };
     screens.draw(&view, work);
 }

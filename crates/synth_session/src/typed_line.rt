@@ -6,7 +6,7 @@ ghost use Rattle.template_tree.specs.Programs.PlainTree.{roomless_tree};
 ghost use Rattle.template_tree.specs.Positions.Stop.{plain_stop};
 ghost use Rattle.template_tree.specs.Programs.Tree.{IsTree};
 ghost use Rattle.synth_session.specs.Private.MemorylessKey.{HasOutcome};
-ghost use Rattle.synth_session.specs.SessionView.{IsSession, plain_session};
+ghost use Rattle.synth_session.specs.SessionView.{IsReadyForKey, plain_session};
 ghost use Rattle.synth_session.specs.TypedLine.{char_typed, cursor_phrase, last_erased, phrase_typed};
 
 use crate::answer::{Answer, Refusal};
@@ -23,7 +23,7 @@ pub const LINE_LIMIT: usize = 200;
 impl<W: Work> Session<W> {
     /// Appends a printable byte to the typed line.
     pub(crate) fn type_char(&mut self, byte: u8) -> Answer
-        requires { IsSession self.old }
+        requires { IsReadyForKey self.old }
         ensures { HasOutcome (char_typed (plain_session self.old) byte) self.old self.new result }
     {
         if self.typed.is_full() {
@@ -35,7 +35,7 @@ impl<W: Work> Session<W> {
 
     /// Takes the last byte of the typed line back.
     pub(crate) fn erase(&mut self) -> Answer
-        requires { IsSession self.old }
+        requires { IsReadyForKey self.old }
         ensures { HasOutcome (last_erased (plain_session self.old)) self.old self.new result }
     {
         if self.typed.pop().is_none() {
@@ -46,7 +46,7 @@ impl<W: Work> Session<W> {
 
     /// Does what Tab asks for: takes the text of the phrase at the cursor into the empty line.
     pub(crate) fn type_phrase(&mut self) -> Answer
-        requires { IsSession self.old }
+        requires { IsReadyForKey self.old }
         ensures { HasOutcome (phrase_typed (plain_session self.old)) self.old self.new result }
     {
         if !self.typed.is_empty() {

@@ -1,5 +1,5 @@
 -- What came of an edit of the program, and why an edit isn't made or phrase text isn't entered.
-use Rattle.std.specs.Prelude.{◌≡◌, ℕ, Result, Ok, Err}
+use Rattle.std.specs.Prelude.{◌≡◌, Result, Ok, Err}
 use Rattle.plcs_grammar.specs.declared.phrase.Phrase.{Phrase}
 use Rattle.plcs_grammar.specs.OverLimit.{OverLimit}
 use Rattle.plcs_grammar.specs.PlainPhrase.{plain_phrase}
@@ -10,7 +10,10 @@ use Rattle.template_tree.specs.Programs.PlainTree.{PlainTree}
 use Rattle.template_tree.specs.Positions.Stop.{PlainStop}
 use Rattle.template_tree.specs.declared.tree_fault.TreeFault.{TreeFault}
 use Rattle.session_edit.specs.Edited.{Edited}
+use Rattle.plcs_base.specs.PlainCounts.{CountsNothing, PlainCounts}
 use Rattle.synth_session.specs.CheckedPhrases.{phrase_count}
+use Rattle.synth_session.specs.CountedKey.{CountsProgram}
+use Rattle.synth_session.specs.ProgramCode.{code_length}
 
 -- ---- edits
 
@@ -24,10 +27,11 @@ abbrev pub HasBecome : Edited → PlainTree → PlainStop → Type 0
 HasBecome (Edited.became tree stop taken what slot) after to = (tree ≡ after) × (stop ≡ to)
 HasBecome (Edited.refused fault) after to = ⊥
 
--- how many phrases are checked at most where this came of an edit of the program: each of the program after it, or none
-abbrev pub edit_checks : Edited → ℕ
-edit_checks (Edited.became tree stop taken what slot) = phrase_count tree
-edit_checks (Edited.refused fault) = 0
+-- what is counted where an edit of the program comes to this: each phrase of the program after it is checked once at most, and each
+-- instruction of its code emitted once at most
+abbrev pub CountsEdit : Edited → (before now : PlainCounts) → Type 0
+CountsEdit (Edited.became tree stop taken what slot) before now = CountsProgram (phrase_count tree) (code_length tree) before now
+CountsEdit (Edited.refused fault) before now = CountsNothing before now
 
 -- ---- phrase text
 

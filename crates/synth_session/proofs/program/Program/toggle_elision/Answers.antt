@@ -1,7 +1,9 @@
-use Rattle.std.proofs.Common.{sym, subst, ◌∙◌}
+use Rattle.std.proofs.Common.{ap, sym, subst, ◌∙◌}
 use Rattle.template_tree.specs.Laws.CheckLaws.{CheckAlike}
-use Rattle.template_tree.specs.Programs.PlainTree.{PlainTree}
+use Rattle.template_tree.specs.Programs.PlainTree.{PlainTree, roomless_tree}
+use Rattle.synth_session.specs.ProgramCode.{code_of}
 use Rattle.synth_session.proofs.AgreeingDependents.{decls_stay}
+use Rattle.synth_session.proofs.ProgramCodes.{code_turned}
 use Rattle.synth_session.proofs.program.Program.toggle_elision.Goals as goal
 
 pub returns-clause-agrees : goal.returns-clause-agrees
@@ -19,3 +21,13 @@ returns-clause-agrees g c =
             marks = c.requires.agrees.dependents.marks ∙ sym alike.verdicts;
           };
     }
+
+pub returns-clause-code : goal.returns-clause-code
+returns-clause-code g c =
+    let tree = c.args.self.now.tree in
+    let path = c.args.path.now.items in
+    λ has.
+    has
+    ∙ sym
+    (ap code_of (ap roomless_tree c.elide.ensures.changed ∙ sym (c.room_is_not_shown.ensures.turns tree path))
+    ∙ code_turned c.programs_have_one_code.ensures.elision (roomless_tree tree) path)

@@ -1,9 +1,26 @@
-use Rattle.std.proofs.Common.{◌≡◌, ◌==◌, false, length, arith}
+use Rattle.std.proofs.Common.{◌≡◌, ◌==◌, false, true, length, Ok, arith}
+use Rattle.cursor_moves.specs.Move.{stop_right}
 use Rattle.std.proofs.lemmas.Grind.{common_steps}
 use Rattle.session_words.specs.CommandLine.{begins_with_point}
 use Rattle.synth_session.specs.SessionView.{DoesByReply, plain_session}
+use Rattle.synth_session.specs.CursorKeys.{cursor_moved}
 use Rattle.synth_session.proofs.StandingTexts.{text_line}
+use Rattle.synth_session.proofs.UnaskedKeys.{empty_line, moved_free, unasked_key}
 use Rattle.synth_session.proofs.session.Session.enter.Goals as goal
+
+-- the line is empty
+pub returns-then-is_empty : goal.returns-then-is_empty
+returns-then-is_empty g c =
+    let s = plain_session c.args.self.now in
+    let files = g.F.Files.told c.args.files.now in
+    let counts = g.W.Work.counts c.args.work.now in
+    let empty : (length c.args.self.now.typed.items == 0) ≡ true = grind (arith, common_steps) in
+    record {
+      does = empty_line s empty
+          (λ takes asks outcome. DoesByReply takes asks outcome c.args.self.now c.move_right.new.self files files counts counts (Ok c.move_right.result))
+          (unasked_key (cursor_moved s stop_right) c.args.self.now c.move_right.new.self files counts c.move_right.result (moved_free s stop_right)
+          c.move_right.ensures);
+    }
 
 -- the line is phrase text
 pub returns-else-begins_with_point : goal.returns-else-begins_with_point

@@ -2,7 +2,8 @@ use Rattle.std.proofs.Common.{rules}
 use Rattle.template_tree.specs.Programs.PlainTree.{roomless_tree}
 use Rattle.file_store.specs.declared.refusal.FileRefusal.{FileRefusal}
 use Rattle.synth_session.specs.KeyReply.{Reply}
-use Rattle.synth_session.proofs.CheckedPhrases.{checks_free}
+use Rattle.synth_session.proofs.CountedPrograms.{key_free}
+use Rattle.synth_session.proofs.WantedCounts.{want_free}
 use Rattle.synth_session.proofs.FileReplies.{loaded_files, refused_load, wanting_load}
 use Rattle.synth_session.proofs.session.Session.load.Goals as goal
 
@@ -24,7 +25,7 @@ returns-in-OutOfMemory g c = record {
     reply = Reply.Refused FileRefusal.FileFault;
     files = wanting_load _ _ _ c.in-Err.refusal _ _ c.in-Err.ensures.files c.in-OutOfMemory.is;
     does = search rules;
-    counts = checks_free 0;
+    counts = want_free 0 0 0;
   };
 }
 
@@ -34,6 +35,6 @@ returns-in_default g c = record {
     reply = Reply.Refused c.in-Err.refusal;
     files = refused_load _ _ _ c.in-Err.refusal _ _ c.in-Err.ensures.says c.in-Err.ensures.files c.in_default.not-OutOfMemory;
     does = search rules;
-    counts = checks_free 0;
+    counts = key_free 0 0;
   };
 }
