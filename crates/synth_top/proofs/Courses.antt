@@ -1,5 +1,5 @@
 -- What a run has done, from what its keys did.
-use Rattle.std.proofs.Common.{◌≡◌, IsTrue, ◌≤◌, ◌⊎◌, ℕ, ◌+◌, false, List, [], ◌∷◌, ◌++◌, Option, length, take, refl, sym, ap, ◌∙◌, subst, append-nil, arith, length-append, inl, inr}
+use Rattle.std.proofs.Common.{◌≡◌, IsTrue, ◌≤◌, ◌⊎◌, ℕ, ◌+◌, false, List, [], ◌∷◌, ◌++◌, Option, None, length, take, refl, sym, ap, ◌∙◌, subst, append-nil, arith, length-append, inl, inr}
 use Rattle.std.proofs.lemmas.List.{take_all}
 use Rattle.std.proofs.Math.Seq.{take-append-add}
 use Rattle.std.proofs.KnownBytes.{Appends-trans, Consumes-nil}
@@ -14,6 +14,7 @@ use Rattle.synth_session.specs.KeyRequest.{request}
 use Rattle.synth_session.specs.MemoryTaken.{key_takes_memory}
 use Rattle.synth_session.specs.PlainSession.{PlainSession}
 use Rattle.synth_session.specs.Press.{press}
+use Rattle.synth_session.specs.SessionView.{CountsWanted}
 use Rattle.synth_session.specs.SessionScreen.{grid}
 use Rattle.synth_top.specs.declared.status.Status.{Status}
 use Rattle.synth_top.specs.declared.status.Status.TheVariants.{WriteFault, NoMemory}
@@ -22,9 +23,10 @@ use Rattle.synth_top.specs.Counted.{CountsFor}
 use Rattle.synth_top.specs.Options.{PlainOptions}
 use Rattle.synth_top.specs.Private.Pressing.{AllShown, Moment, UpToLast, state_at}
 use Rattle.synth_top.specs.Private.EditorRuns.{EditorRuns}
-use Rattle.synth_top.specs.WholeRun.{AtLastKey, Course, NoKeyComes, LeavesSource, OpeningCut, ReadsInTurn, Stopped, Told, ToldStreams, all_shots, opening, painted_over, run_bill, written}
-use Rattle.synth_top.specs.Turn.{HasReply, HaveReplies, IsToldAs, PressedKey, EditorState, bills, state_after_keys, ends, failures, grids, keys_pressed, shot_of, shots}
-use Rattle.synth_top.proofs.CountsInTurn.{counts_both, counts_within}
+use Rattle.synth_top.specs.WholeRun.{AtLastKey, Course, NoKeyComes, LeavesSource, OpeningCut, ReadsInTurn, Stopped, Told, ToldStreams, all_shots, fetches_due, opening, painted_over, run_bill, state_after, written}
+use Rattle.synth_top.specs.Turn.{HasReply, HaveReplies, IsToldAs, LeftAtLast, PressedKey, EditorState, bills, state_after_keys, ends, failures, grids, keys_pressed, no_bill, shot_of, shots}
+use Rattle.synth_top.proofs.CountsInTurn.{counts_both, counts_within, due_after}
+use Rattle.synth_top.proofs.TurnsInOrder.{ended_left}
 
 -- what is told of keys and screens at a moment, and of all
 abbrev pub told_at : Option (List ℕ) → ℕ → Moment → ToldStreams
@@ -41,7 +43,7 @@ pub record Opened (first : EditorState) (before : Told) (m : Moment) : Type 0 wh
   pub unwanted : m.wanted ≡ before.streams.wants
   pub faults : m.files.faults ≡ before.files.faults
   pub wants : m.files.wants ≡ before.files.wants
-  pub counts : CountsFor 0 (shot_of first.session ∷ []) before.counts m.counts
+  pub counts : CountsFor no_bill (shot_of first.session ∷ []) None before.counts m.counts
 
 -- no byte of keys was read before the keys that those before it complete
 abbrev pub InTurn : List ℕ → List PressedKey → Type 0
@@ -58,7 +60,7 @@ module _ (options : PlainOptions) (first : EditorState) (before now : Told) (ses
     (read : now.streams.left ≡ before.streams.left) (unread : now.streams.reads ≡ before.streams.reads)
     (front : AppendsFront before.streams.taken now.streams.taken (opening first.session)) (same : session ≡ first.session)
     (untouched : now.files ≡ before.files) (told : IsToldAs first.files before.files.stored)
-    (counts : CountsFor 0 (shot_of first.session ∷ []) before.counts now.counts) where
+    (counts : CountsFor no_bill (shot_of first.session ∷ []) None before.counts now.counts) where
   opening_wrote : Appends before.streams.taken now.streams.taken (take front.0 (written first []))
   unfolding written
   opening_wrote = subst (λ l. Appends before.streams.taken now.streams.taken (take front.0 l)) (sym (append-nil (opening first.session))) front.1
@@ -74,6 +76,7 @@ module _ (options : PlainOptions) (first : EditorState) (before now : Told) (ses
     made = omega (arith, unread);
     pressed = [];
     can_reply = tt;
+    left = tt;
     in_order = (keys [], refl);
     complete = inl (completed [], refl);
     count = front.0;
@@ -83,9 +86,10 @@ module _ (options : PlainOptions) (first : EditorState) (before now : Told) (ses
   opening_cut : OpeningCut opening_course
   opening_cut = record { no_read = refl; no_byte = refl; no_key = refl }
 
-  opening_runs : (status : Status) → Stopped opening_course before.files.wants now.files.wants status → {after_reads after_fault : Type 0} → after_reads
+  opening_runs : (status : Status) (stopped : Stopped opening_course before.files.wants now.files.wants status)
+      → fetches_due opening_course before.files.wants now.files.wants status stopped ≡ None → {after_reads after_fault : Type 0} → after_reads
       → EditorRuns status options first before now after_reads after_fault session
-  opening_runs status stopped led = record {
+  opening_runs status stopped due led = record {
     course = opening_course;
     stopped = stopped;
     source = inl (led, refl);
@@ -93,16 +97,19 @@ module _ (options : PlainOptions) (first : EditorState) (before now : Told) (ses
     files = subst (λ (files : PlainFiles). IsToldAs first.files files.stored) (sym untouched) told;
     faults = omega (arith, ap (λ (files : PlainFiles). files.faults) untouched);
     wants = omega (arith, ap (λ (files : PlainFiles). files.wants) untouched);
-    counts = counts_within 0 (run_bill opening_course before.files.wants now.files.wants status stopped) (all_shots opening_course) before.counts now.counts
-        (omega arith) counts;
+    counts = subst
+        (λ (d : Option ℕ). CountsFor (run_bill opening_course before.files.wants now.files.wants status stopped) (all_shots opening_course) d before.counts now.counts)
+        (sym due)
+        (counts_within no_bill (run_bill opening_course before.files.wants now.files.wants status stopped) (all_shots opening_course) None
+        before.counts now.counts (omega arith) (omega arith) counts);
   }
 
   pub opening_failed : {after_reads after_fault : Type 0} → after_reads → EditorRuns WriteFault options first before now after_reads after_fault session
-  opening_failed led = opening_runs WriteFault (refl, inl opening_cut) led
+  opening_failed led = opening_runs WriteFault (refl, inl opening_cut) refl led
 
   pub opening_wanted : {after_reads after_fault : Type 0} → Rose before.streams.wants now.streams.wants → after_reads
       → EditorRuns NoMemory options first before now after_reads after_fault session
-  opening_wanted rose led = opening_runs NoMemory (inr (inl (refl, inl opening_cut, rose))) led
+  opening_wanted rose led = opening_runs NoMemory (inr (inl (refl, inl opening_cut, rose))) refl led
 
 module _ (options : PlainOptions) (first : EditorState) (before : Told) (opened m : Moment) (left : Option (List ℕ)) (now_reads : ℕ)
     (is_opened : Opened first before opened) where
@@ -113,25 +120,28 @@ module _ (options : PlainOptions) (first : EditorState) (before : Told) (opened 
       ap (λ s. opening first.session ++ painted_over (grid first.session) (grids s ps)) (sym is_opened.state)
       ∙ ap (λ g. opening first.session ++ painted_over g (grids (state_at opened) ps)) (sym is_opened.shown)
 
-  length_is : (ps : List PressedKey)
+  pub length_is : (ps : List PressedKey)
       → length (written first ps) ≡ length (opening first.session) + length (painted_over opened.shown (grids (state_at opened) ps))
   length_is ps = ap length (written_is ps) ∙ length-append (opening first.session) (painted_over opened.shown (grids (state_at opened) ps))
 
-  -- what was counted, from the opening screen on
-  pub counts_all : (ps : List PressedKey) (now : PlainCounts) → CountsFor (bills (state_at opened) ps) (shots (state_at opened) ps) opened.counts now
-      → CountsFor (bills first ps) (shot_of first.session ∷ shots first ps) before.counts now
-  counts_all ps now counts =
-      counts_both 0 (bills first ps) (bills first ps) (shot_of first.session ∷ []) (shots first ps) before.counts opened.counts now (omega arith) is_opened.counts
-      (subst (λ (s : EditorState). CountsFor (bills s ps) (shots s ps) opened.counts now) is_opened.state counts)
+  -- what was counted, from the opening screen on, and what was due
+  pub counts_all : (ps : List PressedKey) (due : Option ℕ) (now : PlainCounts)
+      → CountsFor (bills (state_at opened) ps) (shots (state_at opened) ps) due opened.counts now
+      → CountsFor (bills first ps) (shot_of first.session ∷ shots first ps) (due_after (shot_of first.session ∷ []) due) before.counts now
+  counts_all ps due now counts =
+      counts_both no_bill (bills first ps) (bills first ps) (shot_of first.session ∷ []) (shots first ps) due before.counts opened.counts now
+      (omega arith) (omega arith) is_opened.counts
+      (subst (λ (s : EditorState). CountsFor (bills s ps) (shots s ps) due opened.counts now) is_opened.state counts)
 
-  -- what can be replied to a key after some, and its bill
+  -- what can be replied to a key after some, and what it counts
   pub reply_after : (ps : List PressedKey) (pressed : PressedKey) → HasReply (state_after_keys (state_at opened) ps) pressed
       → HasReply (state_after_keys first ps) pressed
   reply_after ps pressed can = subst (λ (s : EditorState). HasReply (state_after_keys s ps) pressed) is_opened.state can
 
-  pub bill_after : (ps : List PressedKey) (key : Key) (reply : Reply) → (press (state_after_keys (state_at opened) ps).session key reply).checks
-      ≡ (press (state_after_keys first ps).session key reply).checks
-  bill_after ps key reply = ap (λ (s : EditorState). (press (state_after_keys s ps).session key reply).checks) is_opened.state
+  pub work_after : (ps : List PressedKey) (key : Key) (reply : Reply) (b c : PlainCounts)
+      → CountsWanted (press (state_after_keys (state_at opened) ps).session key reply) b c
+      → CountsWanted (press (state_after_keys first ps).session key reply) b c
+  work_after ps key reply b c work = subst (λ (s : EditorState). CountsWanted (press (state_after_keys s ps).session key reply) b c) is_opened.state work
 
   -- what is seen after some keys: the session, the map that is claimed, and the faults of the files
   session_after : (ps : List PressedKey) → m.session ≡ (state_after_keys (state_at opened) ps).session → m.session ≡ (state_after_keys first ps).session
@@ -164,6 +174,7 @@ module _ (options : PlainOptions) (first : EditorState) (before : Told) (opened 
       made = made;
       pressed = ps;
       can_reply = subst (λ s. HaveReplies s ps) is_opened.state all.can_reply;
+      left = ended_left first ps all.ended;
       in_order = order;
       complete = complete;
       count = length (written first ps);
@@ -186,7 +197,9 @@ module _ (options : PlainOptions) (first : EditorState) (before : Told) (opened 
 
     -- the run that stopped so after them, with what was counted then
     pub all_runs_counting : (status : Status) → before.files.wants ≤ m.files.wants → (stopped : Stopped all_course before.files.wants m.files.wants status)
-        (counts : PlainCounts) → CountsFor (run_bill all_course before.files.wants m.files.wants status stopped) (all_shots all_course) before.counts counts
+        (counts : PlainCounts)
+        → CountsFor (run_bill all_course before.files.wants m.files.wants status stopped) (all_shots all_course)
+        (fetches_due all_course before.files.wants m.files.wants status stopped) before.counts counts
         → {after_reads after_fault : Type 0} → LeavesSource all_course after_reads after_fault
         → EditorRuns status options first before (whole_at left now_reads (record m { counts = counts })) after_reads after_fault m.session
     all_runs_counting status wants stopped counts counted source = record {
@@ -201,18 +214,22 @@ module _ (options : PlainOptions) (first : EditorState) (before : Told) (opened 
     }
 
     -- the run where nothing more was counted
-    pub all_runs : (status : Status) → before.files.wants ≤ m.files.wants → Stopped all_course before.files.wants m.files.wants status → {after_reads after_fault : Type 0}
+    pub all_runs : (status : Status) → before.files.wants ≤ m.files.wants → (stopped : Stopped all_course before.files.wants m.files.wants status)
+        → fetches_due all_course before.files.wants m.files.wants status stopped ≡ None → {after_reads after_fault : Type 0}
         → LeavesSource all_course after_reads after_fault
         → EditorRuns status options first before (whole_at left now_reads m) after_reads after_fault m.session
-    all_runs status wants stopped source =
+    all_runs status wants stopped due source =
         all_runs_counting status wants stopped m.counts
-        (counts_within (bills first ps) (run_bill all_course before.files.wants m.files.wants status stopped) (all_shots all_course) before.counts m.counts
-        (omega arith) (counts_all ps m.counts all.counts))
+        (subst
+        (λ (d : Option ℕ). CountsFor (run_bill all_course before.files.wants m.files.wants status stopped) (all_shots all_course) d before.counts m.counts)
+        (sym due)
+        (counts_within (bills first ps) (run_bill all_course before.files.wants m.files.wants status stopped) (all_shots all_course) None
+        before.counts m.counts (omega arith) (omega arith) (counts_all ps None m.counts all.counts)))
         source
 
   -- ---- keys were shown up to a last one
   module _ (bytes : List ℕ) (read : Consumes before.streams.left left (bytes ++ [])) (within : length bytes ≤ options.key_limit)
-      (reads : ℕ) (made : now_reads ≡ raised_by reads before.streams.reads) (earlier : List PressedKey) (last : PressedKey) (count : ℕ) (up_to : UpToLast opened m earlier last count)
+      (reads : ℕ) (made : now_reads ≡ raised_by reads before.streams.reads) (earlier : List PressedKey) (last : PressedKey) (count : ℕ) {due : Option ℕ} (up_to : UpToLast opened m earlier last count due)
       (order : IsFront (keys_pressed (earlier ++ last ∷ [])) (keys bytes))
       (complete : IsFront (keys_pressed (earlier ++ last ∷ [])) (completed bytes) ⊎ NoKeyComes options (told_at left now_reads m) bytes reads) where
     pub last_wrote : Appends before.streams.taken m.taken (take (length (opening first.session) + count) (written first (earlier ++ last ∷ [])))
@@ -233,13 +250,14 @@ module _ (options : PlainOptions) (first : EditorState) (before : Told) (opened 
       made = made;
       pressed = earlier ++ last ∷ [];
       can_reply = subst (λ s. HaveReplies s (earlier ++ last ∷ [])) is_opened.state up_to.can_reply;
+      left = subst (λ s. LeftAtLast s (earlier ++ last ∷ [])) is_opened.state up_to.left;
       in_order = order;
       complete = complete;
       count = length (opening first.session) + count;
       wrote = last_wrote;
     }
 
-    pub at_last : InTurn bytes earlier → ReadsInTurn options (told_at left now_reads m) bytes reads earlier → AtLastKey last_course
+    abbrev pub at_last : InTurn bytes earlier → ReadsInTurn options (told_at left now_reads m) bytes reads earlier → AtLastKey last_course
     at_last in_turn reads_in_turn = record {
       earlier = earlier;
       last = last;
@@ -258,17 +276,27 @@ module _ (options : PlainOptions) (first : EditorState) (before : Told) (opened 
         → length (written first (earlier ++ last ∷ [])) ≤ length (opening first.session) + count
     last_all all = omega (arith, length_is (earlier ++ last ∷ []), all)
 
+    -- the session at the last one
+    pub last_session : m.session ≡ (state_after last_course).session
+    last_session = session_after (earlier ++ last ∷ []) up_to.session
+
     -- the run that stopped so at the last one
-    pub last_runs : (status : Status) → Stopped last_course before.files.wants m.files.wants status → {after_reads after_fault : Type 0} → after_reads
+    pub last_runs : (status : Status) (stopped : Stopped last_course before.files.wants m.files.wants status)
+        → due_after (shot_of first.session ∷ []) due ≡ fetches_due last_course before.files.wants m.files.wants status stopped
+        → {after_reads after_fault : Type 0} → after_reads
         → EditorRuns status options first before (whole_at left now_reads m) after_reads after_fault m.session
-    last_runs status stopped led = record {
+    last_runs status stopped all_due led = record {
       course = last_course;
       stopped = stopped;
       source = inl (led, refl);
-      session_is = session_after (earlier ++ last ∷ []) up_to.session;
+      session_is = last_session;
       files = files_told_after (earlier ++ last ∷ []) up_to.files;
       faults = faults_after (earlier ++ last ∷ []) up_to.faults;
       wants = omega (arith, up_to.wants, is_opened.wants);
-      counts = counts_within (bills first (earlier ++ last ∷ [])) (run_bill last_course before.files.wants m.files.wants status stopped) (all_shots last_course)
-          before.counts m.counts (omega arith) (counts_all (earlier ++ last ∷ []) m.counts up_to.counts);
+      counts = subst
+          (λ (d : Option ℕ). CountsFor (run_bill last_course before.files.wants m.files.wants status stopped) (all_shots last_course) d before.counts m.counts)
+          all_due
+          (counts_within (bills first (earlier ++ last ∷ [])) (run_bill last_course before.files.wants m.files.wants status stopped) (all_shots last_course)
+          (due_after (shot_of first.session ∷ []) due) before.counts m.counts (omega arith) (omega arith)
+          (counts_all (earlier ++ last ∷ []) due m.counts up_to.counts));
     }

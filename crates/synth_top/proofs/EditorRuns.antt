@@ -1,31 +1,33 @@
 -- A run, byte by byte.
-use Rattle.std.proofs.Common.{◌≡◌, ◌<◌, ◌≤◌, ◌⊎◌, ℕ, ◌+◌, true, false, List, [], ◌∷◌, ◌++◌, Option, length, refl, sym, ap, ◌∙◌, subst, append_assoc, append-nil, arith, length-append, inl, inr}
+use Rattle.std.proofs.Common.{◌≡◌, ◌<◌, ◌≤◌, ◌⊎◌, ℕ, ◌+◌, true, false, List, [], ◌∷◌, ◌++◌, Option, Some, None, length, refl, sym, ap, ◌∙◌, subst, append_assoc, append-nil, arith, length-append, inl, inr}
 use Rattle.std.proofs.lemmas.Bool.{true≢false}
 use Rattle.std.proofs.lemmas.List.{same_from_push}
 use Rattle.std.proofs.KnownBytes.{Consumes-nil, Consumes-trans}
 use Rattle.std.specs.Io.KnownBytes.{Consumes, IsAtEnd}
 use Rattle.plcs_base.specs.Count.{Rose, raised, raised_by}
-use Rattle.plcs_base.specs.PlainCounts.{ChecksAtMost}
 use Rattle.synth_session.specs.declared.key.Key.{Key}
 use Rattle.synth_session.specs.declared.key.Key.TheVariants.{Other}
 use Rattle.synth_session.specs.KeyReply.{CountsWant, Reply, Request}
 use Rattle.synth_session.specs.KeyRequest.{request}
+use Rattle.synth_session.specs.PlainSession.{PlainSession}
 use Rattle.synth_session.specs.Press.{press}
+use Rattle.synth_session.specs.SessionView.{CountsWanted}
+use Rattle.synth_session.specs.Tick.{CallsNext}
 use Rattle.synth_top.specs.declared.key.Keys.{Keys}
 use Rattle.synth_top.specs.declared.editor.Going.{Going}
 use Rattle.synth_top.specs.declared.editor.Going.TheVariants.{On, Over}
 use Rattle.synth_top.specs.declared.status.Status.{Status}
 use Rattle.synth_top.specs.declared.status.Status.TheVariants.{Done, ReadFault, WriteFault, NoMemory, BadWords, KeyLimit}
-use Rattle.synth_top.specs.Counted.{CountsFor}
+use Rattle.synth_top.specs.Counted.{CountsFor, all_fetched}
 use Rattle.synth_top.specs.Keys.{Feeds, IsFront, IsHeld, completed, keys, listed_keys}
-use Rattle.synth_top.specs.Private.Pressing.{AllShown, KeysCut, KeysQuit, KeysShown, KeysWanted, Moment, Pressed, UpToLast, ended_as, state_at}
+use Rattle.synth_top.specs.Private.Pressing.{AllShown, KeysCut, KeysQuit, KeysShown, KeysStepWanted, KeysWanted, Moment, Pressed, UpToLast, ended_as, state_at}
 use Rattle.synth_top.specs.Private.EditorRuns.{EditorRuns}
-use Rattle.synth_top.specs.WholeRun.{AtLastKey, Course, EndRead, NoKeyComes, KeyWanted, LimitTaken, PressedAll, ReadCut, ReadsInTurn, ScreenCut, Stopped, Told, all_shots, painted_over, run_bill, written}
-use Rattle.synth_top.specs.Turn.{PressedKey, EditorState, bill, bills, state_after_keys, ends, grids, keys_pressed, turn}
+use Rattle.synth_top.specs.WholeRun.{AtLastKey, Course, EndRead, NoKeyComes, KeyWanted, LimitTaken, PressedAll, ReadCut, ReadsInTurn, ScreenCut, StepWanted, Stopped, Told, all_shots, fetches_due, painted_over, run_bill, state_after, written}
+use Rattle.synth_top.specs.Turn.{Bill, PressedKey, EditorState, bill, bills, state_after_keys, ends, grids, keys_pressed, pressed_whole, shot_of, shots, steps_of, turn}
 use Rattle.synth_top.specs.Options.{PlainOptions}
-use Rattle.synth_top.proofs.CountsInTurn.{counts_after}
-use Rattle.synth_top.proofs.Courses.{InTurn, Opened, all_counts, all_course, all_going, all_runs, all_runs_counting, all_takes, at_last, bill_after, reply_after, counts_all, last_all, last_course, last_ends, last_runs, one_byte, told_at, whole_at}
-use Rattle.synth_top.proofs.KeysInOrder.{keys_pressed-append, bill_more, counts_more, reply_more, takes_more, both_shown, then_up_to, front_after, wanted_after, ends_more, painted_more}
+use Rattle.synth_top.proofs.CountsInTurn.{counts_wanted, due_after, fetched-append}
+use Rattle.synth_top.proofs.Courses.{InTurn, Opened, all_counts, all_course, all_going, all_runs, all_runs_counting, all_takes, at_last, work_after, reply_after, counts_all, last_all, last_course, last_ends, last_runs, last_session, one_byte, told_at, whole_at}
+use Rattle.synth_top.proofs.KeysInOrder.{keys_pressed-append, work_more, counts_more, due_more, reply_more, takes_more, both_shown, then_up_to, front_after, wanted_after, ends_more, painted_more}
 use Rattle.synth_top.proofs.OneKey.{none_shown, unchanged_itself}
 
 -- so many bytes were read, one a read, all keys that they complete were pressed, and all screens were written
@@ -82,9 +84,9 @@ completed_list bytes held before so held_is =
     ended_list completed bytes held before so ∙ ap (λ l. before ++ l) (held_completes held held_is) ∙ append-nil before
 
 -- what isn't complete is no key, or one that ends no session
-other_goes_on : (s : EditorState) (reply : Reply) → ends s (record { key = Other; reply = reply } ∷ []) ≡ false
+other_goes_on : (s : EditorState) (reply : Reply) (left : Option ℕ) → ends s (record { key = Other; reply = reply; left_after = left } ∷ []) ≡ false
 unfolding turn press
-other_goes_on s reply = refl
+other_goes_on s reply left = refl
 
 rest_of_one : (m now : Moment) (rest : List Key) → rest ≡ Other ∷ [] → KeysQuit rest m now → ⊥
 rest_of_one m now rest one quit = quits_at quit.earlier quit.last quit.front quit.quit where
@@ -92,7 +94,10 @@ rest_of_one m now rest one quit = quits_at quit.earlier quit.last quit.front qui
       → ends (state_at m) (earlier ++ last ∷ []) ≡ true → ⊥
   quits_at [] last front ended =
       let is_other : last.key ≡ Other = cc (front.1, one) in
-      absurd (true≢false (sym ended ∙ ap (λ key. ends (state_at m) (record { key = key; reply = last.reply } ∷ [])) is_other ∙ other_goes_on (state_at m) last.reply))
+      absurd
+      (true≢false
+      (sym ended ∙ ap (λ key. ends (state_at m) (record { key = key; reply = last.reply; left_after = last.left_after } ∷ [])) is_other
+      ∙ other_goes_on (state_at m) last.reply last.left_after))
   quits_at (first ∷ []) last front ended = absurd (cc (front.1, one))
   quits_at (first ∷ next ∷ earlier) last front ended = absurd (cc (front.1, one))
 
@@ -112,6 +117,7 @@ rest_goes_on held m now (inr (inr bracket)) quit = rest_of_one m now (keys held)
 wants_rose : (asks : Request) (before now : ℕ) → CountsWant asks before now → before ≤ now
 wants_rose Request.Nothing before now counts = omega (arith, counts)
 wants_rose (Request.Read category text) before now counts = omega (arith, counts)
+wants_rose (Request.Resume kept c tree) before now counts = omega (arith, counts)
 wants_rose (Request.Save name bytes) before now counts = omega (arith, counts)
 wants_rose (Request.Load name) before now counts = counts
 
@@ -156,7 +162,7 @@ module _ (number : ℕ) (options : PlainOptions) (first : EditorState) (before :
     no_byte_after = subst (Consumes before.streams.left now_left) (sym (append-nil bytes)) read
 
     module _ (earlier : List PressedKey) (last : PressedKey) (front : IsFront (keys_pressed (earlier ++ last ∷ [])) more) (count : ℕ)
-        (up_to : UpToLast m now earlier last count) where
+        {due : Option ℕ} (up_to : UpToLast m now earlier last count due) where
       joined : so.pressed ++ (earlier ++ last ∷ []) ≡ (so.pressed ++ earlier) ++ last ∷ []
       joined = sym (append_assoc so.pressed earlier (last ∷ []))
 
@@ -169,13 +175,14 @@ module _ (number : ℕ) (options : PlainOptions) (first : EditorState) (before :
           [ inl h ↦ inl (front_trans _ _ _ in_front h) | inr h ↦ inr h ]
 
       all_up_to : UpToLast so.opened now (so.pressed ++ earlier) last (length (painted_over so.opened.shown (grids (state_at so.opened) so.pressed)) + count)
-      all_up_to = then_up_to so.opened m so.pressed so.all now earlier last count so.wants up_to
+          (due_after (shots (state_at so.opened) so.pressed) due)
+      all_up_to = then_up_to so.opened m so.pressed so.all now earlier last count due so.wants up_to
 
       abbrev course : Course options first before.streams (told_at now_left now_reads now)
       course = last_course options first before so.opened now now_left now_reads so.is_opened bytes no_byte_after within reads made (so.pressed ++ earlier) last _ all_up_to
           (front_trans _ _ _ in_front order) complete_front
 
-      at_key : AtLastKey course
+      abbrev at_key : AtLastKey course
       at_key = at_last options first before so.opened now now_left now_reads so.is_opened bytes no_byte_after within reads made (so.pressed ++ earlier) last _ all_up_to
           (front_trans _ _ _ in_front order) complete_front (in_turn earlier) (reads_in_turn earlier)
 
@@ -200,12 +207,57 @@ module _ (number : ℕ) (options : PlainOptions) (first : EditorState) (before :
       screen_cut : ends (state_at m) (earlier ++ last ∷ []) ≡ false → ScreenCut course
       screen_cut going = record { at_key = at_key; going = ends_as false going }
 
+      session_is : now.session ≡ (state_after course).session
+      session_is =
+          last_session options first before so.opened now now_left now_reads so.is_opened bytes no_byte_after within reads made (so.pressed ++ earlier) last _ all_up_to
+          (front_trans _ _ _ in_front order) complete_front
+
       -- the run that stopped there
-      last_stopped : (status : Status) → Stopped course before.files.wants now.files.wants status → {after_reads after_fault : Type 0} → after_reads
+      last_stopped : (status : Status) (stopped : Stopped course before.files.wants now.files.wants status)
+          → due_after (shot_of first.session ∷ []) (due_after (shots (state_at so.opened) so.pressed) due)
+          ≡ fetches_due course before.files.wants now.files.wants status stopped
+          → {after_reads after_fault : Type 0} → after_reads
           → EditorRuns status options first before (whole_at now_left now_reads now) after_reads after_fault now.session
-      last_stopped status stopped led =
+      last_stopped status stopped all_due led =
           last_runs options first before so.opened now now_left now_reads so.is_opened bytes no_byte_after within reads made (so.pressed ++ earlier) last _ all_up_to
-          (front_trans _ _ _ in_front order) complete_front status stopped led
+          (front_trans _ _ _ in_front order) complete_front status stopped all_due led
+
+    -- ---- keys up to one in whose turn a step wanted memory
+    module _ (next : KeysStepWanted more m now) where
+      abbrev stepped_course : Course options first before.streams (told_at now_left now_reads now)
+      stepped_course = course next.earlier next.last next.front next.count next.up_to
+
+      abbrev step_wanted : StepWanted stepped_course before.files.wants now.files.wants
+      step_wanted = record {
+        at_key = at_key next.earlier next.last next.front next.count next.up_to;
+        number = next.number;
+        left = next.left;
+        calls = subst (λ (s : PlainSession). CallsNext (steps_of s) s) (session_is next.earlier next.last next.front next.count next.up_to) next.calls;
+        wants = next.up_to.wants ∙ so.wants ∙ so.is_opened.wants;
+        going = ends_as next.earlier next.last next.front next.count next.up_to false next.going;
+      }
+
+      abbrev step_stop : Stopped stepped_course before.files.wants now.files.wants NoMemory
+      step_stop = inr (inr (all_written next.earlier next.last next.front next.count next.up_to next.all, refl, inr step_wanted))
+
+      -- so many instructions were due as if the last turn had come to its end
+      steps_due : due_after (shot_of first.session ∷ [])
+          (due_after (shots (state_at so.opened) so.pressed) (Some (all_fetched (shots (state_at m) (next.earlier ++ record (next.last) { left_after = None } ∷ [])))))
+          ≡ fetches_due stepped_course before.files.wants now.files.wants NoMemory step_stop
+      steps_due =
+          let last = record (next.last) { left_after = None } in
+          let whole = shots first ((so.pressed ++ next.earlier) ++ last ∷ []) in
+          let sum : all_fetched (shot_of first.session ∷ []) + all_fetched whole ≡ all_fetched (shot_of first.session ∷ whole) = omega arith in
+          ap (due_after (shot_of first.session ∷ [])) (due_more so.opened m so.pressed so.all next.earlier (record (next.last) { left_after = None }))
+          ∙ ap
+          (λ (s : EditorState). due_after (shot_of first.session ∷ [])
+          (Some (all_fetched (shots s ((so.pressed ++ next.earlier) ++ record (next.last) { left_after = None } ∷ [])))))
+          so.is_opened.state
+          ∙ ap (λ (n : ℕ). Some n) sum
+
+      step_wanted_runs : {after_reads after_fault : Type 0} → after_reads
+          → EditorRuns NoMemory options first before (whole_at now_left now_reads now) after_reads after_fault now.session
+      step_wanted_runs led = last_stopped next.earlier next.last next.front next.count next.up_to NoMemory step_stop steps_due led
 
     -- ---- keys up to one that wanted memory
     module _ (next : KeysWanted more m now) where
@@ -239,7 +291,7 @@ module _ (number : ℕ) (options : PlainOptions) (first : EditorState) (before :
         wanted = next.wanted;
         reply = next.reply;
         can_reply = reply_after options first before so.opened shown_now now_left now_reads so.is_opened (so.pressed ++ next.pressed)
-            (record { key = next.wanted; reply = next.reply })
+            (pressed_whole next.wanted next.reply)
             (reply_more so.opened m so.pressed so.all next.pressed next.wanted next.reply next.can_reply);
         takes = all_takes options first before so.opened shown_now now_left now_reads so.is_opened bytes [] no_byte_after (omega arith) within reads made
             (so.pressed ++ next.pressed) all_shown (front_without _ _ next.wanted in_keys) pressed_complete next.wanted
@@ -249,6 +301,7 @@ module _ (number : ℕ) (options : PlainOptions) (first : EditorState) (before :
             (counts_more so.opened m so.pressed so.all next.pressed next.wanted now.files.wants so.wants next.counts);
         next = in_keys;
         complete = in_complete;
+        ended = all_shown.ended;
         going = all_going options first before so.opened shown_now now_left now_reads so.is_opened bytes [] no_byte_after (omega arith) within reads made
             (so.pressed ++ next.pressed) all_shown (front_without _ _ next.wanted in_keys) pressed_complete;
         taken = record { in_turn = in_turn next.pressed; reads = reads_in_turn next.pressed };
@@ -257,22 +310,27 @@ module _ (number : ℕ) (options : PlainOptions) (first : EditorState) (before :
       abbrev wanted_stop : Stopped wanting_course before.files.wants now.files.wants NoMemory
       wanted_stop = inr (inr (omega arith, refl, inl key_wanted))
 
-      -- its bill after all keys pressed, and its checks under it
-      abbrev bill_then : ℕ
-      bill_then = bill (state_after_keys first (so.pressed ++ next.pressed)) (record { key = next.wanted; reply = next.reply })
+      -- its bill after all keys pressed, and what it counted under it
+      abbrev bill_then : Bill
+      bill_then = bill (state_after_keys first (so.pressed ++ next.pressed)) (pressed_whole next.wanted next.reply)
 
-      wanted_checks : ChecksAtMost bill_then next.counted now.counts
-      wanted_checks = subst (λ (bound : ℕ). ChecksAtMost bound next.counted now.counts)
-          (bill_more so.opened m so.pressed so.all next.pressed next.wanted next.reply
-          ∙ bill_after options first before so.opened shown_now now_left now_reads so.is_opened (so.pressed ++ next.pressed) next.wanted next.reply)
-          next.checks
+      wanted_work : CountsWanted (press (state_after_keys first (so.pressed ++ next.pressed)).session next.wanted next.reply) next.counted now.counts
+      wanted_work =
+          work_after options first before so.opened shown_now now_left now_reads so.is_opened (so.pressed ++ next.pressed) next.wanted next.reply next.counted now.counts
+          (work_more so.opened m so.pressed so.all next.pressed next.wanted next.reply next.counted now.counts next.work)
 
-      -- what was counted, with these checks
-      wanted_counts : CountsFor (run_bill wanting_course before.files.wants now.files.wants NoMemory wanted_stop) (all_shots wanting_course) before.counts now.counts
-      wanted_counts = counts_after (bills first (so.pressed ++ next.pressed)) bill_then (run_bill wanting_course before.files.wants now.files.wants NoMemory wanted_stop)
-          (all_shots wanting_course) before.counts next.counted now.counts (omega arith)
-          (counts_all options first before so.opened shown_now now_left now_reads so.is_opened (so.pressed ++ next.pressed) next.counted all_shown.counts)
-          wanted_checks
+      -- what was counted, with this
+      wanted_counts : CountsFor (run_bill wanting_course before.files.wants now.files.wants NoMemory wanted_stop) (all_shots wanting_course)
+          (fetches_due wanting_course before.files.wants now.files.wants NoMemory wanted_stop) before.counts now.counts
+      wanted_counts =
+          let state = state_after_keys first (so.pressed ++ next.pressed) in
+          let both = fetched-append (all_shots wanting_course) (turn state (pressed_whole next.wanted next.reply)).shots in
+          let fetched = next.law state next.wanted next.reply in
+          counts_wanted (bills first (so.pressed ++ next.pressed)) bill_then (run_bill wanting_course before.files.wants now.files.wants NoMemory wanted_stop)
+          (press state.session next.wanted next.reply).fetches (all_fetched (all_shots wanting_course ++ (turn state (pressed_whole next.wanted next.reply)).shots))
+          (all_shots wanting_course) before.counts next.counted now.counts (omega arith) (omega arith) (omega (arith, both, fetched))
+          (counts_all options first before so.opened shown_now now_left now_reads so.is_opened (so.pressed ++ next.pressed) None next.counted all_shown.counts)
+          wanted_work
 
       -- the run that stopped there
       key_wanted_runs : {after_reads after_fault : Type 0} → after_reads
@@ -285,7 +343,7 @@ module _ (number : ℕ) (options : PlainOptions) (first : EditorState) (before :
 
     -- a screen of one of the keys was cut short, or one of them wanted memory
     module _ {after_reads after_fault : Type 0} (led : after_reads) where
-      out_of_memory : (KeysCut more m now × Rose m.wanted now.wanted) ⊎ KeysWanted more m now
+      out_of_memory : (KeysCut more m now × Rose m.wanted now.wanted) ⊎ (KeysWanted more m now ⊎ KeysStepWanted more m now)
           → EditorRuns NoMemory options first before (whole_at now_left now_reads now) after_reads after_fault now.session
       out_of_memory (inl cut) =
           last_stopped cut.0.earlier cut.0.last cut.0.front cut.0.count cut.0.up_to NoMemory
@@ -293,8 +351,9 @@ module _ (number : ℕ) (options : PlainOptions) (first : EditorState) (before :
             refl,
             inr (screen_cut cut.0.earlier cut.0.last cut.0.front cut.0.count cut.0.up_to cut.0.going),
             omega (arith, cut.1, so.all.unwanted, so.is_opened.unwanted),
-          ))) led
-      out_of_memory (inr next) = key_wanted_runs next led
+          ))) refl led
+      out_of_memory (inr (inl next)) = key_wanted_runs next led
+      out_of_memory (inr (inr next)) = step_wanted_runs next led
 
     -- by the status
     pub stopped_at_key : (status : Status) → Pressed (Over status) more m now → {after_reads after_fault : Type 0} → after_reads
@@ -308,10 +367,10 @@ module _ (number : ℕ) (options : PlainOptions) (first : EditorState) (before :
             quit = ends_as next.earlier next.last next.front next.count next.up_to true next.quit;
             no_read = quit_last next;
           }),
-        ) led
+        ) refl led
     stopped_at_key WriteFault next led =
         last_stopped next.earlier next.last next.front next.count next.up_to WriteFault
-        (refl, inr (screen_cut next.earlier next.last next.front next.count next.up_to next.going)) led
+        (refl, inr (screen_cut next.earlier next.last next.front next.count next.up_to next.going)) refl led
     stopped_at_key NoMemory next led = out_of_memory led next
     stopped_at_key ReadFault next led = absurd next
     stopped_at_key BadWords next led = absurd next
@@ -398,6 +457,7 @@ module _ (number : ℕ) (options : PlainOptions) (first : EditorState) (before :
     read_cut = record {
       all = record {
         pressed = sym cut_done;
+        ended = cut_shown.ended;
         going = all_going options first before so.opened now now_left now_reads so.is_opened so.bytes lost cut_read few (omega (arith, so.many, below))
             (number + 1) (made_more one) so.pressed cut_shown cut_order cut_complete;
       };
@@ -405,17 +465,19 @@ module _ (number : ℕ) (options : PlainOptions) (first : EditorState) (before :
       one_more = ap (λ n. n + 1) (sym so.many);
     }
 
-    cut_runs : (status : Status) → Stopped cut_course before.files.wants now.files.wants status → {after_reads after_fault : Type 0} → after_fault → EditorRuns status options first before (whole_at now_left now_reads now) after_reads after_fault now.session
-    cut_runs status stopped broke =
+    cut_runs : (status : Status) (stopped : Stopped cut_course before.files.wants now.files.wants status)
+        → fetches_due cut_course before.files.wants now.files.wants status stopped ≡ None → {after_reads after_fault : Type 0} → after_fault
+        → EditorRuns status options first before (whole_at now_left now_reads now) after_reads after_fault now.session
+    cut_runs status stopped due broke =
         all_runs options first before so.opened now now_left now_reads so.is_opened so.bytes lost cut_read few (omega (arith, so.many, below))
         (number + 1) (made_more one) so.pressed cut_shown cut_order cut_complete status
-        (omega (arith, ap (λ (z : Moment). z.files.wants) same, so.wants, so.is_opened.wants)) stopped (inr (broke, read_cut))
+        (omega (arith, ap (λ (z : Moment). z.files.wants) same, so.wants, so.is_opened.wants)) stopped due (inr (broke, read_cut))
 
     pub read_failed : {after_reads after_fault : Type 0} → after_fault → EditorRuns ReadFault options first before (whole_at now_left now_reads now) after_reads after_fault now.session
-    read_failed broke = cut_runs ReadFault (omega arith, read_cut) broke
+    read_failed broke = cut_runs ReadFault (omega arith, read_cut) refl broke
 
     pub read_wanted : {after_reads after_fault : Type 0} → after_fault → EditorRuns NoMemory options first before (whole_at now_left now_reads now) after_reads after_fault now.session
-    read_wanted broke = cut_runs NoMemory (inl (omega arith, read_cut)) broke
+    read_wanted broke = cut_runs NoMemory (inl (omega arith, read_cut)) refl broke
 
   -- ---- no byte comes any more
   module _ (read : Consumes left now_left []) (within : number ≤ options.key_limit) (reads : ℕ) (made : now_reads ≡ raised_by reads before.streams.reads)
@@ -470,15 +532,18 @@ module _ (number : ℕ) (options : PlainOptions) (first : EditorState) (before :
       pub pressed_all : PressedAll ended_course (keys so.bytes)
       pressed_all = record {
         pressed = ended_pressed;
+        ended = ended_shown.ended;
         going = all_going options first before so.opened now now_left now_reads so.is_opened so.bytes [] ended_read (omega arith)
             (omega (arith, so.many, within)) reads made ended_keys ended_shown ended_order (inr over);
       }
 
-      pub ended_runs : (status : Status) → Stopped ended_course before.files.wants now.files.wants status → {after_reads after_fault : Type 0} → after_reads → EditorRuns status options first before (whole_at now_left now_reads now) after_reads after_fault now.session
-      ended_runs status stopped led =
+      pub ended_runs : (status : Status) (stopped : Stopped ended_course before.files.wants now.files.wants status)
+          → fetches_due ended_course before.files.wants now.files.wants status stopped ≡ None → {after_reads after_fault : Type 0} → after_reads
+          → EditorRuns status options first before (whole_at now_left now_reads now) after_reads after_fault now.session
+      ended_runs status stopped due led =
           all_runs options first before so.opened now now_left now_reads so.is_opened so.bytes [] ended_read (omega arith)
           (omega (arith, so.many, within)) reads made ended_keys ended_shown ended_order (inr over) status
-          (omega (arith, next.wants, so.wants, so.is_opened.wants)) stopped (inl (led, refl))
+          (omega (arith, next.wants, so.wants, so.is_opened.wants)) stopped due (inl (led, refl))
 
   -- the source ended
   module _ (read : Consumes left now_left []) (ended : IsAtEnd now_left) (below : number < options.key_limit) (one : now_reads ≡ raised so_reads) where
@@ -489,7 +554,7 @@ module _ (number : ℕ) (options : PlainOptions) (first : EditorState) (before :
         → EditorRuns (ended_as going Done) options first before (whole_at now_left now_reads now) after_reads after_fault now.session
     ended_at_end On next led =
         ended_runs read (omega (arith, below)) (number + 1) (made_more one) (inl end_read) next Done
-        (omega arith, refl, inl (record { all = pressed_all read (omega (arith, below)) (number + 1) (made_more one) (inl end_read) next; end = end_read })) led
+        (omega arith, refl, inl (record { all = pressed_all read (omega (arith, below)) (number + 1) (made_more one) (inl end_read) next; end = end_read })) refl led
     ended_at_end (Over status) next led = ended_by_rest read (omega (arith, below)) (number + 1) (made_more one) (inl end_read) status next led
 
   -- as many bytes were read as the limit allows
@@ -501,5 +566,5 @@ module _ (number : ℕ) (options : PlainOptions) (first : EditorState) (before :
         → EditorRuns (ended_as going KeyLimit) options first before (whole_at now_left now_reads now) after_reads after_fault now.session
     ended_at_limit On next led =
         ended_runs read (omega (arith, all)) number (unread ∙ so.made) (inr limit_taken) next KeyLimit
-        (omega arith, refl, record { all = pressed_all read (omega (arith, all)) number (unread ∙ so.made) (inr limit_taken) next; limit = limit_taken }) led
+        (omega arith, refl, record { all = pressed_all read (omega (arith, all)) number (unread ∙ so.made) (inr limit_taken) next; limit = limit_taken }) refl led
     ended_at_limit (Over status) next led = ended_by_rest read (omega (arith, all)) number (unread ∙ so.made) (inr limit_taken) status next led

@@ -1,11 +1,11 @@
 -- Keys that are pressed, and then others.
-use Rattle.std.proofs.Common.{◌≡◌, ◌≤◌, IsTrue, ◌⊎◌, inl, inr, ℕ, ◌+◌, true, false, List, [], ◌∷◌, ◌++◌, Option, length, take, sym, ap, ◌∙◌, subst, append_assoc, arith, length-append}
+use Rattle.std.proofs.Common.{◌≡◌, ◌≤◌, IsTrue, ◌⊎◌, inl, inr, ℕ, ◌+◌, true, false, List, [], ◌∷◌, ◌++◌, Option, Some, None, length, take, sym, ap, ◌∙◌, subst, append_assoc, arith, length-append}
 use Rattle.std.proofs.lemmas.List.{map-append}
 use Rattle.std.proofs.Math.Seq.{take-append-add}
 use Rattle.std.proofs.KnownBytes.{Appends-trans}
 use Rattle.std.specs.Io.KnownBytes.{Appends}
 use Rattle.plcs_base.specs.Count.{Rose}
-use Rattle.plcs_base.specs.PlainCounts.{ChecksAtMost}
+use Rattle.plcs_base.specs.PlainCounts.{PlainCounts}
 use Rattle.synth_outside.specs.Cause.{RisesWith}
 use Rattle.synth_outside.specs.Files.{FileMap}
 use Rattle.screen_window.specs.PlainGrid.{PlainGrid}
@@ -15,17 +15,18 @@ use Rattle.synth_session.specs.KeyRequest.{request}
 use Rattle.synth_session.specs.MemoryTaken.{key_takes_memory}
 use Rattle.synth_session.specs.PlainSession.{PlainSession}
 use Rattle.synth_session.specs.Press.{press}
+use Rattle.synth_session.specs.SessionView.{CountsWanted}
 use Rattle.synth_top.specs.declared.editor.Going.{Going}
 use Rattle.synth_top.specs.declared.editor.Going.TheVariants.{On, Over}
 use Rattle.synth_top.specs.declared.status.Status.{Status}
 use Rattle.synth_top.specs.declared.status.Status.TheVariants.{Done, ReadFault, WriteFault, NoMemory, BadWords, KeyLimit}
-use Rattle.synth_top.specs.Private.Pressing.{Moment, AllShown, UpToLast, KeysShown, KeysQuit, KeysCut, KeysWanted, Pressed, last_shown, state_at}
-use Rattle.synth_top.specs.Counted.{CountsFor}
+use Rattle.synth_top.specs.Private.Pressing.{Moment, AllShown, UpToLast, KeysShown, KeysQuit, KeysCut, KeysStepWanted, KeysWanted, Pressed, last_shown, state_at}
+use Rattle.synth_top.specs.Counted.{CountsFor, all_fetched}
 use Rattle.synth_top.specs.WholeRun.{painted_over}
-use Rattle.synth_top.specs.Turn.{HasReply, HaveReplies, IsToldAs, PressedKey, Shot, bills, state_after_keys, ends, failures, grids, keys_pressed, shots}
-use Rattle.synth_top.proofs.ClaimedFiles.{ClaimsNoMore, after_less, replies_less, same_bills, same_ends, same_grids, same_shots, told_through, turn_reply_less}
-use Rattle.synth_top.proofs.CountsInTurn.{counts_both}
-use Rattle.synth_top.proofs.TurnsInOrder.{after-append, bills-append, ends-going, grids-append, HaveReplies-append, failures-append, painted_over-append, last_shown-append, shots-append}
+use Rattle.synth_top.specs.Turn.{Bill, HasReply, HaveReplies, IsToldAs, LeftAtLast, PressedKey, Shot, bills, state_after_keys, ends, failures, grids, keys_pressed, pressed_whole, shots}
+use Rattle.synth_top.proofs.ClaimedFiles.{ClaimsNoMore, after_less, left_less, replies_less, same_bills, same_ends, same_grids, same_shots, told_through, turn_reply_less}
+use Rattle.synth_top.proofs.CountsInTurn.{counts_both, due_after, fetched-append}
+use Rattle.synth_top.proofs.TurnsInOrder.{AllCameToEnd-append, LeftAtLast-append, after-append, checks-append, emits-append, ends-going, grids-append, HaveReplies-append, failures-append, painted_over-append, last_shown-append, shots-append}
 use Rattle.synth_top.specs.Keys.{IsFront}
 
 -- a count that rises after keys in which it stayed
@@ -48,10 +49,15 @@ module _ (a b : Moment) (ps : List PressedKey) (shown : AllShown a b ps) where
       ∙ ap (λ (all : List Shot). shots (state_at a) ps ++ all) (same_shots (state_after_keys (state_at a) ps) (state_at b) qs after_claims_less)
 
   -- the bills of others
-  bills_more : (qs : List PressedKey) → bills (state_at a) (ps ++ qs) ≡ bills (state_at a) ps + bills (state_at b) qs
-  bills_more qs =
-      bills-append (state_at a) ps qs
-      ∙ ap (λ (n : ℕ). bills (state_at a) ps + n) (same_bills (state_after_keys (state_at a) ps) (state_at b) qs after_claims_less)
+  checks_more : (qs : List PressedKey) → (bills (state_at a) (ps ++ qs)).checks ≡ (bills (state_at a) ps).checks + (bills (state_at b) qs).checks
+  checks_more qs =
+      checks-append (state_at a) ps qs
+      ∙ ap (λ (bill : Bill). (bills (state_at a) ps).checks + bill.checks) (same_bills (state_after_keys (state_at a) ps) (state_at b) qs after_claims_less)
+
+  emits_more : (qs : List PressedKey) → (bills (state_at a) (ps ++ qs)).emits ≡ (bills (state_at a) ps).emits + (bills (state_at b) qs).emits
+  emits_more qs =
+      emits-append (state_at a) ps qs
+      ∙ ap (λ (bill : Bill). (bills (state_at a) ps).emits + bill.emits) (same_bills (state_after_keys (state_at a) ps) (state_at b) qs after_claims_less)
 
   -- the screens of others
   grids_more : (qs : List PressedKey) → grids (state_at a) (ps ++ qs) ≡ grids (state_at a) ps ++ grids (state_at b) qs
@@ -84,13 +90,30 @@ module _ (a b : Moment) (ps : List PressedKey) (shown : AllShown a b ps) where
       ∙ last_shown-append a.shown (grids (state_at a) ps) (grids (state_at b) qs)
       ∙ ap (λ g. last_shown g (grids (state_at b) qs)) (sym shown.shown)
 
-  -- what was counted
-  counted_more : (c : Moment) (qs : List PressedKey) → CountsFor (bills (state_at b) qs) (shots (state_at b) qs) b.counts c.counts
-      → CountsFor (bills (state_at a) (ps ++ qs)) (shots (state_at a) (ps ++ qs)) a.counts c.counts
-  counted_more c qs counts =
-      subst (λ (all : List Shot). CountsFor (bills (state_at a) (ps ++ qs)) all a.counts c.counts) (sym (shots_more qs))
+  -- what was counted, and where memory ran out in the others what was due
+  counted_more : (due : Option ℕ) (c : Moment) (qs : List PressedKey) → CountsFor (bills (state_at b) qs) (shots (state_at b) qs) due b.counts c.counts
+      → CountsFor (bills (state_at a) (ps ++ qs)) (shots (state_at a) (ps ++ qs)) (due_after (shots (state_at a) ps) due) a.counts c.counts
+  counted_more due c qs counts =
+      subst (λ (all : List Shot). CountsFor (bills (state_at a) (ps ++ qs)) all (due_after (shots (state_at a) ps) due) a.counts c.counts)
+      (sym (shots_more qs))
       (counts_both (bills (state_at a) ps) (bills (state_at b) qs) (bills (state_at a) (ps ++ qs)) (shots (state_at a) ps) (shots (state_at b) qs)
-      a.counts b.counts c.counts (omega (arith, bills_more qs)) shown.counts counts)
+      due a.counts b.counts c.counts (omega (arith, checks_more qs)) (omega (arith, emits_more qs)) shown.counts counts)
+
+  -- that of the others none but the last was left
+  left_more : (qs : List PressedKey) → LeftAtLast (state_at b) qs → LeftAtLast (state_at a) (ps ++ qs)
+  left_more qs left =
+      LeftAtLast-append (state_at a) ps qs shown.ended (left_less (state_after_keys (state_at a) ps) (state_at b) qs after_claims_less left)
+
+  -- where others were due up to a last one, so many instructions were due in all
+  pub due_more : (qs : List PressedKey) (last : PressedKey)
+      → due_after (shots (state_at a) ps) (Some (all_fetched (shots (state_at b) (qs ++ last ∷ []))))
+      ≡ Some (all_fetched (shots (state_at a) ((ps ++ qs) ++ last ∷ [])))
+  due_more qs last =
+      let all = qs ++ last ∷ [] in
+      ap (λ (n : ℕ). Some n)
+      (sym (ap (λ (l : List PressedKey). all_fetched (shots (state_at a) l)) (append_assoc ps qs (last ∷ []))
+      ∙ ap all_fetched (shots_more all)
+      ∙ fetched-append (shots (state_at a) ps) (shots (state_at b) all)))
 
   -- what was replied
   replies_more : (qs : List PressedKey) → HaveReplies (state_at b) qs → HaveReplies (state_at a) (ps ++ qs)
@@ -113,13 +136,15 @@ module _ (a b : Moment) (ps : List PressedKey) (shown : AllShown a b ps) where
         (Appends-trans a.taken b.taken c.taken (painted_over a.shown (grids (state_at a) ps)) (painted_over b.shown (grids (state_at b) qs)) shown.wrote next.wrote);
     unwanted = next.unwanted ∙ shown.unwanted;
     faults = omega (arith, shown.faults, next.faults, failures-append ps qs);
-    counts = counted_more c qs next.counts;
+    ended = AllCameToEnd-append ps qs shown.ended next.ended;
+    counts = counted_more None c qs next.counts;
   }
 
   -- all of some keys, and others up to a last one
-  pub then_up_to : (c : Moment) (earlier : List PressedKey) (last : PressedKey) (count : ℕ) → b.files.wants ≡ a.files.wants → UpToLast b c earlier last count
-      → UpToLast a c (ps ++ earlier) last (length (painted_over a.shown (grids (state_at a) ps)) + count)
-  then_up_to c earlier last count same_wants next =
+  pub then_up_to : (c : Moment) (earlier : List PressedKey) (last : PressedKey) (count : ℕ) (due : Option ℕ) → b.files.wants ≡ a.files.wants
+      → UpToLast b c earlier last count due
+      → UpToLast a c (ps ++ earlier) last (length (painted_over a.shown (grids (state_at a) ps)) + count) (due_after (shots (state_at a) ps) due)
+  then_up_to c earlier last count due same_wants next =
       let front = painted_over a.shown (grids (state_at a) ps) in
       let all = earlier ++ last ∷ [] in
       let joined : ps ++ all ≡ (ps ++ earlier) ++ last ∷ [] = sym (append_assoc ps earlier (last ∷ [])) in
@@ -139,7 +164,9 @@ module _ (a b : Moment) (ps : List PressedKey) (shown : AllShown a b ps) where
         whole = omega (arith, whole, next.whole);
         faults = omega (arith, shown.faults, next.faults, faults);
         wants = next.wants ∙ same_wants;
-        counts = subst (λ l. CountsFor (bills (state_at a) l) (shots (state_at a) l) a.counts c.counts) joined (counted_more c all next.counts);
+        left = subst (LeftAtLast (state_at a)) joined (left_more all next.left);
+        counts = subst (λ l. CountsFor (bills (state_at a) l) (shots (state_at a) l) (due_after (shots (state_at a) ps) due) a.counts c.counts) joined
+            (counted_more due c all next.counts);
       }
 
   -- a key that wanted memory after all of them
@@ -153,14 +180,14 @@ module _ (a b : Moment) (ps : List PressedKey) (shown : AllShown a b ps) where
         subst (λ (s : PlainSession). CountsWant (request s wanted) a.files.wants now) (sym (after_more qs).session)
         (subst (λ before. CountsWant (request (state_after_keys (state_at b) qs).session wanted) before now) same counts)
 
-    pub reply_more : (reply : Reply) → HasReply (state_after_keys (state_at b) qs) (record { key = wanted; reply = reply })
-        → HasReply (state_after_keys (state_at a) (ps ++ qs)) (record { key = wanted; reply = reply })
+    pub reply_more : (reply : Reply) → HasReply (state_after_keys (state_at b) qs) (pressed_whole wanted reply)
+        → HasReply (state_after_keys (state_at a) (ps ++ qs)) (pressed_whole wanted reply)
     reply_more reply can =
-        turn_reply_less (state_after_keys (state_at a) (ps ++ qs)) (state_after_keys (state_at b) qs) (record { key = wanted; reply = reply }) (after_more qs) can
+        turn_reply_less (state_after_keys (state_at a) (ps ++ qs)) (state_after_keys (state_at b) qs) (pressed_whole wanted reply) (after_more qs) can
 
-    pub bill_more : (reply : Reply) → (press (state_after_keys (state_at b) qs).session wanted reply).checks
-        ≡ (press (state_after_keys (state_at a) (ps ++ qs)).session wanted reply).checks
-    bill_more reply = ap (λ (s : PlainSession). (press s wanted reply).checks) (sym (after_more qs).session)
+    pub work_more : (reply : Reply) (before now : PlainCounts) → CountsWanted (press (state_after_keys (state_at b) qs).session wanted reply) before now
+        → CountsWanted (press (state_after_keys (state_at a) (ps ++ qs)).session wanted reply) before now
+    work_more reply before now work = subst (λ (s : PlainSession). CountsWanted (press s wanted reply) before now) (sym (after_more qs).session) work
 
 -- keys in front of others
 pub front_after : (ps : List PressedKey) (keys more : List Key) (qs : List PressedKey) → keys_pressed ps ≡ keys → IsFront (keys_pressed qs) more
@@ -202,7 +229,7 @@ module _ (keys more : List Key) (a b c : Moment) (first : KeysShown keys a b) wh
         last = next.last;
         front = subst (λ l. IsFront (keys_pressed l) (keys ++ more)) joined (front_after ps keys more all first.all next.front);
         count = length (painted_over a.shown (grids (state_at a) ps)) + next.count;
-        up_to = then_up_to a b ps first.shown c next.earlier next.last next.count first.wants next.up_to;
+        up_to = then_up_to a b ps first.shown c next.earlier next.last next.count None first.wants next.up_to;
         quit = subst (λ l. ends (state_at a) l ≡ true) joined (ends_more a b ps first.shown all ∙ next.quit);
         all = subst (λ l. length (painted_over a.shown (grids (state_at a) l)) ≤ length (painted_over a.shown (grids (state_at a) ps)) + next.count) joined
             (omega (arith, bytes, next.all));
@@ -218,7 +245,7 @@ module _ (keys more : List Key) (a b c : Moment) (first : KeysShown keys a b) wh
         last = next.last;
         front = subst (λ l. IsFront (keys_pressed l) (keys ++ more)) joined (front_after ps keys more all first.all next.front);
         count = length (painted_over a.shown (grids (state_at a) ps)) + next.count;
-        up_to = then_up_to a b ps first.shown c next.earlier next.last next.count first.wants next.up_to;
+        up_to = then_up_to a b ps first.shown c next.earlier next.last next.count None first.wants next.up_to;
         going = subst (λ l. ends (state_at a) l ≡ false) joined (ends_more a b ps first.shown all ∙ next.going);
       }
 
@@ -234,8 +261,32 @@ module _ (keys more : List Key) (a b c : Moment) (first : KeysShown keys a b) wh
         shown = both_shown a b ps first.shown (record c { counts = next.counted }) next.pressed next.shown;
         reply = next.reply;
         can_reply = reply_more a b ps first.shown next.pressed next.wanted next.reply next.can_reply;
-        checks = subst (λ (bound : ℕ). ChecksAtMost bound next.counted c.counts)
-            (bill_more a b ps first.shown next.pressed next.wanted next.reply) next.checks;
+        work = work_more a b ps first.shown next.pressed next.wanted next.reply next.counted c.counts next.work;
+        law = next.law;
+      }
+
+  then_step_wanted : KeysStepWanted more b c → KeysStepWanted (keys ++ more) a c
+  then_step_wanted next =
+      let ps = first.pressed in
+      let all = next.earlier ++ next.last ∷ [] in
+      let joined : ps ++ all ≡ (ps ++ next.earlier) ++ next.last ∷ [] = sym (append_assoc ps next.earlier (next.last ∷ [])) in
+      let bytes = ap length (painted_more a b ps first.shown all) ∙ length-append (painted_over a.shown (grids (state_at a) ps)) (painted_over b.shown (grids (state_at b) all)) in
+      record {
+        earlier = ps ++ next.earlier;
+        last = next.last;
+        front = subst (λ l. IsFront (keys_pressed l) (keys ++ more)) joined (front_after ps keys more all first.all next.front);
+        number = next.number;
+        left = next.left;
+        count = length (painted_over a.shown (grids (state_at a) ps)) + next.count;
+        up_to = subst
+            (λ (due : Option ℕ). UpToLast a c (ps ++ next.earlier) next.last (length (painted_over a.shown (grids (state_at a) ps)) + next.count) due)
+            (due_more a b ps first.shown next.earlier (record (next.last) { left_after = None }))
+            (then_up_to a b ps first.shown c next.earlier next.last next.count
+            (Some (all_fetched (shots (state_at b) (next.earlier ++ record (next.last) { left_after = None } ∷ [])))) first.wants next.up_to);
+        all = subst (λ l. length (painted_over a.shown (grids (state_at a) l)) ≤ length (painted_over a.shown (grids (state_at a) ps)) + next.count) joined
+            (omega (arith, bytes, next.all));
+        calls = next.calls;
+        going = subst (λ l. ends (state_at a) l ≡ false) joined (ends_more a b ps first.shown all ∙ next.going);
       }
 
 -- all of some keys, and then what became of others
@@ -244,9 +295,10 @@ pressed_then On keys more a b c first next = then_all keys more a b c first next
 pressed_then (Over Done) keys more a b c first next = then_quit keys more a b c first next
 pressed_then (Over WriteFault) keys more a b c first next = then_cut keys more a b c first next
 pressed_then (Over NoMemory) keys more a b c first next =
-    elim next as (λ _. (KeysCut (keys ++ more) a c × Rose a.wanted c.wanted) ⊎ KeysWanted (keys ++ more) a c) [
+    elim next as (λ _. (KeysCut (keys ++ more) a c × Rose a.wanted c.wanted) ⊎ (KeysWanted (keys ++ more) a c ⊎ KeysStepWanted (keys ++ more) a c)) [
       | inl cut ↦ inl (then_cut keys more a b c first cut.0, omega (arith, cut.1, first.shown.unwanted))
-      | inr wanted ↦ inr (then_wanted keys more a b c first wanted)
+      | inr (inl wanted) ↦ inr (inl (then_wanted keys more a b c first wanted))
+      | inr (inr wanted) ↦ inr (inr (then_step_wanted keys more a b c first wanted))
     ]
 pressed_then (Over ReadFault) keys more a b c first next = absurd next
 pressed_then (Over BadWords) keys more a b c first next = absurd next
@@ -268,6 +320,36 @@ cut_before keys more a b cut = record {
   going = cut.going;
 }
 
+-- nor where one of them wanted memory, or a step in the turn of one
+wanted_before : (keys more : List Key) (a b : Moment) → KeysWanted keys a b → KeysWanted (keys ++ more) a b
+wanted_before keys more a b wanted = record {
+  pressed = wanted.pressed;
+  wanted = wanted.wanted;
+  takes = wanted.takes;
+  counts = wanted.counts;
+  front = front_more _ keys more wanted.front;
+  counted = wanted.counted;
+  shown = wanted.shown;
+  reply = wanted.reply;
+  can_reply = wanted.can_reply;
+  work = wanted.work;
+  law = wanted.law;
+}
+
+step_wanted_before : (keys more : List Key) (a b : Moment) → KeysStepWanted keys a b → KeysStepWanted (keys ++ more) a b
+step_wanted_before keys more a b wanted = record {
+  earlier = wanted.earlier;
+  last = wanted.last;
+  front = front_more _ keys more wanted.front;
+  number = wanted.number;
+  left = wanted.left;
+  count = wanted.count;
+  up_to = wanted.up_to;
+  all = wanted.all;
+  calls = wanted.calls;
+  going = wanted.going;
+}
+
 -- where the run ended at one of some keys, others after them don't matter
 pub pressed_before : (status : Status) (keys more : List Key) (a b : Moment) → Pressed (Over status) keys a b → Pressed (Over status) (keys ++ more) a b
 pressed_before Done keys more a b pressed = record {
@@ -281,20 +363,10 @@ pressed_before Done keys more a b pressed = record {
 }
 pressed_before WriteFault keys more a b pressed = cut_before keys more a b pressed
 pressed_before NoMemory keys more a b pressed =
-    elim pressed as (λ _. (KeysCut (keys ++ more) a b × Rose a.wanted b.wanted) ⊎ KeysWanted (keys ++ more) a b) [
+    elim pressed as (λ _. (KeysCut (keys ++ more) a b × Rose a.wanted b.wanted) ⊎ (KeysWanted (keys ++ more) a b ⊎ KeysStepWanted (keys ++ more) a b)) [
       | inl cut ↦ inl (cut_before keys more a b cut.0, cut.1)
-      | inr wanted ↦ inr (record {
-        pressed = wanted.pressed;
-        wanted = wanted.wanted;
-        takes = wanted.takes;
-        counts = wanted.counts;
-        front = front_more _ keys more wanted.front;
-        counted = wanted.counted;
-        shown = wanted.shown;
-        reply = wanted.reply;
-        can_reply = wanted.can_reply;
-        checks = wanted.checks;
-      })
+      | inr (inl wanted) ↦ inr (inl (wanted_before keys more a b wanted))
+      | inr (inr wanted) ↦ inr (inr (step_wanted_before keys more a b wanted))
     ]
 pressed_before ReadFault keys more a b pressed = absurd pressed
 pressed_before BadWords keys more a b pressed = absurd pressed

@@ -11,6 +11,8 @@ pub mod WordRows
 pub mod KeyLists
 -- `runs` of Editor::run and `presses` of Editor::press: what is counted for some shots and then for others
 pub mod CountsInTurn
+-- `made` of Editor::make_steps: ticks one after the other
+pub mod TicksInOrder
 -- `presses` of Editor::press and press_keys: turns of a state of which less is claimed, turns along a list of keys, one key, and
 -- keys after others
 pub mod ClaimedFiles

@@ -1,11 +1,11 @@
 -- Turns of some keys and then of others.
-use Rattle.std.proofs.Common.{◌≡◌, ◌+◌, Bool, true, false, ◌||◌, List, [], ◌∷◌, ◌++◌, refl, sym, ap, ◌∙◌, append_assoc, arith}
+use Rattle.std.proofs.Common.{◌≡◌, ◌+◌, ℕ, Bool, true, false, ◌||◌, List, [], ◌∷◌, ◌++◌, Option, None, refl, sym, ap, subst, ◌∙◌, append_assoc, arith}
 use Rattle.std.proofs.lemmas.List.{map-append}
 use Rattle.screen_window.specs.Paint.{Paint}
 use Rattle.screen_window.specs.PlainGrid.{PlainGrid}
 use Rattle.synth_top.specs.Private.Pressing.{last_shown}
 use Rattle.synth_top.specs.WholeRun.{painted_over}
-use Rattle.synth_top.specs.Turn.{HaveReplies, PressedKey, EditorState, Shot, bills, state_after_keys, ends, failures, grids, screens_of, shots, turn}
+use Rattle.synth_top.specs.Turn.{AllCameToEnd, CameToEnd, HaveReplies, LeftAtLast, MayBeLeft, PressedKey, EditorState, Shot, bills, state_after_keys, ends, failures, grids, screens_of, shots, turn}
 
 -- a test that fails, and then another
 or_false : (a b : Bool) → a ≡ false → (a || b) ≡ b
@@ -48,9 +48,37 @@ pub failures-append : (ps qs : List PressedKey) → failures (ps ++ qs) ≡ fail
 failures-append [] qs = omega arith
 failures-append (p ∷ ps) qs = let rest = failures-append ps qs in omega (arith, rest)
 
-pub bills-append : (s : EditorState) (ps qs : List PressedKey) → bills s (ps ++ qs) ≡ bills s ps + bills (state_after_keys s ps) qs
-bills-append s [] qs = omega arith
-bills-append s (p ∷ ps) qs = let rest = bills-append (turn s p).after ps qs in omega (arith, rest)
+pub checks-append : (s : EditorState) (ps qs : List PressedKey)
+    → (bills s (ps ++ qs)).checks ≡ (bills s ps).checks + (bills (state_after_keys s ps) qs).checks
+checks-append s [] qs = omega arith
+checks-append s (p ∷ ps) qs = let rest = checks-append (turn s p).after ps qs in omega (arith, rest)
+
+pub emits-append : (s : EditorState) (ps qs : List PressedKey)
+    → (bills s (ps ++ qs)).emits ≡ (bills s ps).emits + (bills (state_after_keys s ps) qs).emits
+emits-append s [] qs = omega arith
+emits-append s (p ∷ ps) qs = let rest = emits-append (turn s p).after ps qs in omega (arith, rest)
+
+-- that none was left before its end, or the last alone
+pub AllCameToEnd-append : (ps qs : List PressedKey) → AllCameToEnd ps → AllCameToEnd qs → AllCameToEnd (ps ++ qs)
+AllCameToEnd-append [] qs first second = second
+AllCameToEnd-append (p ∷ ps) qs first second = (first.0, AllCameToEnd-append ps qs first.1 second)
+
+ended_may : (s : EditorState) (p : PressedKey) (left : Option ℕ) → left ≡ None → MayBeLeft s p left
+ended_may s p left ended = subst (MayBeLeft s p) (sym ended) tt
+
+pub ended_left : (s : EditorState) (ps : List PressedKey) → AllCameToEnd ps → LeftAtLast s ps
+ended_left s [] ended = tt
+ended_left s (p ∷ []) ended = ended_may s p p.left_after ended.0
+ended_left s (p ∷ q ∷ ps) ended = (ended.0, ended_left (turn s p).after (q ∷ ps) ended.1)
+
+left_before : (s : EditorState) (p : PressedKey) (qs : List PressedKey) → CameToEnd p → LeftAtLast (turn s p).after qs → LeftAtLast s (p ∷ qs)
+left_before s p [] ended left = ended_may s p p.left_after ended
+left_before s p (q ∷ qs) ended left = (ended, left)
+
+pub LeftAtLast-append : (s : EditorState) (ps qs : List PressedKey) → AllCameToEnd ps → LeftAtLast (state_after_keys s ps) qs → LeftAtLast s (ps ++ qs)
+LeftAtLast-append s [] qs ended left = left
+LeftAtLast-append s (p ∷ ps) qs ended left =
+    left_before s p (ps ++ qs) ended.0 (LeftAtLast-append (turn s p).after ps qs ended.1 left)
 
 -- some screens, and then others over the last of them
 pub painted_over-append : (g : PlainGrid) (xs ys : List PlainGrid) → painted_over g (xs ++ ys) ≡ painted_over g xs ++ painted_over (last_shown g xs) ys

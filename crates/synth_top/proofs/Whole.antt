@@ -1,23 +1,24 @@
 -- A whole run: the loads, the keys, and what is saved at the end.
-use Rattle.std.proofs.Common.{◌≡◌, inl, inr, ℕ, ◌+◌, List, [], Option, Some, None, codes, refl, ap, ◌∙◌, subst, arith}
+use Rattle.std.proofs.Common.{◌≡◌, inl, inr, ℕ, List, Option, Some, None, codes, refl, ap, ◌∙◌, subst, arith}
 use Rattle.std.specs.Prelude.{option_map}
 use Rattle.std.specs.FinMap.{insert}
-use Rattle.plcs_base.specs.PlainCounts.{ChecksAtMost, PlainCounts}
+use Rattle.plcs_base.specs.PlainCounts.{PlainCounts}
 use Rattle.synth_outside.specs.Files.{FileMap, PlainFiles}
 use Rattle.template_tree.specs.Listings.Listing.{Listing}
+use Rattle.synth_session.specs.CountedKey.{CountsProgram}
 use Rattle.synth_session.specs.PlainSession.{PlainSession}
 use Rattle.synth_top.specs.declared.status.Status.{Status}
 use Rattle.synth_top.specs.declared.status.Status.TheVariants.{NoMemory}
 use Rattle.synth_top.specs.Counted.{CountsFor}
-use Rattle.synth_top.specs.Loads.{PlainFirstLoads, first_session, first_state, opening_checks}
+use Rattle.synth_top.specs.Loads.{PlainFirstLoads, first_session, first_state, opening_bill}
 use Rattle.synth_top.specs.Options.{PlainOptions}
 use Rattle.synth_top.specs.Private.Loading.{BothLoad, LoadsNothing, OnlyRead}
 use Rattle.synth_top.specs.Private.EditorRuns.{Rescues, EditorRuns}
 use Rattle.synth_top.specs.Rescue.{NoRescue, Rescue, RescueFailed, RescueWanted, Rescued, files_with}
-use Rattle.synth_top.specs.WholeRun.{Ended, Ran, Stopped, Told, ToldStreams, all_shots, run_bill, state_after}
-use Rattle.synth_top.specs.Turn.{IsToldAs, EditorState}
+use Rattle.synth_top.specs.WholeRun.{Ended, Ran, Stopped, Told, ToldStreams, all_shots, fetches_due, run_bill, state_after}
+use Rattle.synth_top.specs.Turn.{IsToldAs, EditorState, both_bills}
 use Rattle.synth_top.proofs.ClaimedFiles.{told_through}
-use Rattle.synth_top.proofs.CountsInTurn.{counts_both, counts_checks}
+use Rattle.synth_top.proofs.CountsInTurn.{counts_after_none, counts_program}
 
 -- ---- the loads
 
@@ -67,7 +68,7 @@ whole streams files counts = record { streams = streams; files = files; counts =
 -- the loads, the run from the session that they make, and the rescue after it
 pub ran : (status : Status) (options : PlainOptions) (loads : PlainFirstLoads) (before now : ToldStreams) (files loaded at_end files_now : PlainFiles)
     (counts opened counts_now : PlainCounts) (first : EditorState) (after_reads after_fault : Type 0) (session : PlainSession)
-    → BothLoad options loads files loaded → ChecksAtMost (opening_checks loads) counts opened → first ≡ first_state options files.stored loads
+    → BothLoad options loads files loaded → CountsProgram (opening_bill loads).checks (opening_bill loads).emits counts opened → first ≡ first_state options files.stored loads
     → EditorRuns status options first (whole before loaded opened) (whole now at_end counts_now) after_reads after_fault session
     → Rescues status session at_end files_now
     → Ran status options (whole before files counts) (whole now files_now counts_now) after_reads after_fault
@@ -76,8 +77,11 @@ ran status options loads before now files loaded at_end files_now counts opened 
     subst (λ (s : EditorState). EditorRuns status options s (whole before loaded opened) (whole now at_end counts_now) after_reads after_fault session) is runs_first in
     -- why it stopped, from the files' first count of wants on, and what was counted under its bill
     let stopped : (why : Stopped runs.course files.wants at_end.wants status)
-    × CountsFor (run_bill runs.course files.wants at_end.wants status why) (all_shots runs.course) opened counts_now =
-    subst (λ (n : ℕ). (why : Stopped runs.course n at_end.wants status) × CountsFor (run_bill runs.course n at_end.wants status why) (all_shots runs.course) opened counts_now)
+    × CountsFor (run_bill runs.course files.wants at_end.wants status why) (all_shots runs.course)
+    (fetches_due runs.course files.wants at_end.wants status why) opened counts_now =
+    subst
+    (λ (n : ℕ). (why : Stopped runs.course n at_end.wants status)
+    × CountsFor (run_bill runs.course n at_end.wants status why) (all_shots runs.course) (fetches_due runs.course n at_end.wants status why) opened counts_now)
     load.read.wants (runs.stopped, runs.counts) in
     record {
       loads = loads;
@@ -93,9 +97,10 @@ ran status options loads before now files loaded at_end files_now counts opened 
       files = files_with_less rescue.rescue (state_after runs.course) (record { session = session; files = at_end.stored }) files_now.stored
           runs.session_is runs.files rescue.files;
       faults = omega (arith, load.read.faults, runs.faults, rescue.faults);
-      counts = counts_both (opening_checks loads) (run_bill runs.course files.wants at_end.wants status stopped.0)
-          (opening_checks loads + run_bill runs.course files.wants at_end.wants status stopped.0) [] (all_shots runs.course) counts opened counts_now (omega arith)
-          (counts_checks (opening_checks loads) counts opened opening) stopped.1;
+      counts = counts_after_none (opening_bill loads) (run_bill runs.course files.wants at_end.wants status stopped.0)
+          (both_bills (opening_bill loads) (run_bill runs.course files.wants at_end.wants status stopped.0)) (all_shots runs.course)
+          (fetches_due runs.course files.wants at_end.wants status stopped.0) counts opened counts_now (omega arith) (omega arith)
+          (counts_program (opening_bill loads) counts opened opening) stopped.1;
     }
 
 -- no session was opened, since memory ran out over a load
@@ -115,7 +120,7 @@ unloaded options told files files_now counts after_reads after_fault nothing led
 
 -- no session was opened, since memory ran out after the loads
 pub unopened : (options : PlainOptions) (loads : PlainFirstLoads) (told : ToldStreams) (files files_now : PlainFiles) (counts counts_now : PlainCounts)
-    (after_reads after_fault : Type 0) → BothLoad options loads files files_now → ChecksAtMost (opening_checks loads) counts counts_now → after_reads
+    (after_reads after_fault : Type 0) → BothLoad options loads files files_now → CountsProgram (opening_bill loads).checks (opening_bill loads).emits counts counts_now → after_reads
     → Ended NoMemory options (whole told files counts) (whole told files_now counts_now) after_reads after_fault
 unopened options loads told files files_now counts counts_now after_reads after_fault load opening led =
     inl (record {

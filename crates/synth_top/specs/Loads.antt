@@ -11,9 +11,10 @@ use Rattle.synth_session.specs.KeyReply.{CanReply, Reply, Request}
 use Rattle.synth_session.specs.CheckedPhrases.{phrase_count}
 use Rattle.synth_session.specs.OpenedSession.{opened_session, tree_at_first}
 use Rattle.synth_session.specs.PlainSession.{PlainSession}
+use Rattle.synth_session.specs.ProgramCode.{code_length}
 use Rattle.synth_session.specs.RefusalText.{refusal_text}
 use Rattle.synth_top.specs.Options.{PlainOptions}
-use Rattle.synth_top.specs.Turn.{EditorState, failure}
+use Rattle.synth_top.specs.Turn.{Bill, EditorState, failure}
 
 -- ---- what the files did
 
@@ -69,10 +70,14 @@ abbrev pub loaded_input : InputReply → List ℕ
 loaded_input (InputReply.Loaded bytes) = bytes
 loaded_input reply = []
 
--- how many phrases are checked at most where a session is opened over the files that were loaded before the first
--- screen: each of its program
-abbrev pub opening_checks : PlainFirstLoads → ℕ
-opening_checks loads = phrase_count (tree_at_first (loaded_program loads.program))
+-- the program of the session that is opened over the files that were loaded before the first screen
+abbrev pub opening_tree : PlainFirstLoads → PlainTree
+opening_tree loads = tree_at_first (loaded_program loads.program)
+
+-- the bill where a session is opened over the files that were loaded before the first screen: each phrase of its program
+-- is checked once at most, and each instruction of its code emitted once at most
+abbrev pub opening_bill : PlainFirstLoads → Bill
+opening_bill loads = record { checks = phrase_count (opening_tree loads); emits = code_length (opening_tree loads) }
 
 -- why the file with the program was refused when it was loaded, if it was
 abbrev pub program_refusal : Reply → Option FileRefusal

@@ -3,4 +3,6 @@ pub mod ClapCommand
 pub mod Loading
 pub mod PlainForms
 pub mod Pressing
+pub mod PaintedScreen
+pub mod TicksShown
 pub mod EditorRuns

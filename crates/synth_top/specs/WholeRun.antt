@@ -1,9 +1,9 @@
 -- A whole run: from the bytes of keys to the bytes of screens.
 use Rattle.std.proofs.Common.{inl, inr}
-use Rattle.std.specs.Prelude.{◌≡◌, ◌⊎◌, ℕ, ◌+◌, ◌<◌, ◌≤◌, true, false, IsTrue, List, [], ◌∷◌, ◌++◌, length, take, Option, codes}
+use Rattle.std.specs.Prelude.{◌≡◌, ◌⊎◌, ℕ, ◌+◌, ◌<◌, ◌≤◌, true, false, IsTrue, List, [], ◌∷◌, ◌++◌, length, take, Option, Some, None, codes}
 use Rattle.std.specs.Io.KnownBytes.{Appends, Consumes, IsAtEnd}
 use Rattle.plcs_base.specs.Count.{Rose, RoseBy, raised_by}
-use Rattle.plcs_base.specs.PlainCounts.{ChecksAtMost, CountsNothing, PlainCounts}
+use Rattle.plcs_base.specs.PlainCounts.{CountsNothing, PlainCounts}
 use Rattle.synth_outside.specs.Files.{PlainFiles}
 use Rattle.screen_window.specs.Paint.{Paint, control}
 use Rattle.screen_window.specs.PlainGrid.{PlainGrid, blank_grid}
@@ -11,18 +11,20 @@ use Rattle.synth_session.specs.declared.key.Key.{Key}
 use Rattle.synth_session.specs.KeyReply.{CountsWant, Reply}
 use Rattle.synth_session.specs.KeyRequest.{request}
 use Rattle.synth_session.specs.MemoryTaken.{key_takes_memory}
+use Rattle.synth_session.specs.CountedKey.{CountsProgram}
 use Rattle.synth_session.specs.PlainSession.{PlainSession}
 use Rattle.synth_session.specs.SessionScreen.{grid}
+use Rattle.synth_session.specs.Tick.{CallsNext}
 use Rattle.synth_top.specs.declared.status.Status.{Status}
 use Rattle.synth_top.specs.declared.status.Status.TheVariants.{Done, ReadFault, WriteFault, NoMemory, BadWords, KeyLimit}
-use Rattle.synth_top.specs.Counted.{CountsFor}
+use Rattle.synth_top.specs.Counted.{CountsFor, all_fetched}
 use Rattle.synth_top.specs.Keys.{IsFront, completed, keys}
-use Rattle.synth_top.specs.Loads.{CanLoad, PlainFirstLoads, first_state, load_failures, opening_checks}
+use Rattle.synth_top.specs.Loads.{CanLoad, PlainFirstLoads, first_state, load_failures, opening_bill}
 use Rattle.synth_top.specs.Options.{PlainOptions}
 use Rattle.synth_top.specs.Rescue.{CountsRescueWant, IsRescue, Rescue, files_with, rescue_failure}
 use Rattle.synth_top.specs.Task.{PlainTask}
 use Rattle.synth_top.specs.Task.PlainTask.{Edit}
-use Rattle.synth_top.specs.Turn.{HasReply, HaveReplies, IsToldAs, PressedKey, EditorState, Shot, answered, bill, bills, state_after_keys, ends, failures, grids, keys_pressed, makes_steps, shot_of, shots}
+use Rattle.synth_top.specs.Turn.{AllCameToEnd, Bill, HasReply, HaveReplies, IsToldAs, LeftAtLast, PressedKey, EditorState, Shot, bill, bills, both_bills, state_after_keys, ends, failures, grids, keys_pressed, no_bill, pressed_whole, shot_of, shots, steps_of, turn}
 
 -- ---- what is written
 
@@ -95,10 +97,11 @@ pub record Course (options : PlainOptions) (first : EditorState) (before now : T
   -- how many reads of keys the whole run made
   pub reads : ℕ
   pub made : now.reads ≡ raised_by reads before.reads
-  -- the keys that a whole run pressed, each with what was replied in it; what isn't complete is pressed only where no
-  -- byte comes any more
+  -- the keys pressed, each with what was replied in it; none but the last was left before its end, and what isn't complete is
+  -- pressed only where no byte comes any more
   pub pressed : List PressedKey
   pub can_reply : HaveReplies first pressed
+  pub left : LeftAtLast first pressed
   pub in_order : IsFront (keys_pressed pressed) (keys bytes)
   pub complete : IsFront (keys_pressed pressed) (completed bytes) ⊎ NoKeyComes options now bytes reads
   -- how many bytes the sink took of all that the run writes on screens
@@ -124,9 +127,10 @@ module _ {options : PlainOptions} {first : EditorState} {before now : ToldStream
   abbrev pub NoneLost : Type 0
   NoneLost = course.lost ≡ []
 
-  -- a whole run pressed just these keys, and none ended the session
+  -- a whole run pressed just these keys, each turn came to its end, and none ended the session
   pub record PressedAll (all : List Key) : Type 0 where
     pub pressed : keys_pressed course.pressed ≡ all
+    pub ended : AllCameToEnd course.pressed
     pub going : ends first course.pressed ≡ false
 
   -- a run read the source's end below the limit, and then what isn't complete was pressed too
@@ -186,20 +190,24 @@ module _ {options : PlainOptions} {first : EditorState} {before now : ToldStream
   pub record KeyWanted (wants_before wants_now : ℕ) : Type 0 where
     pub wanted : Key
     pub reply : Reply
-    pub can_reply : HasReply state_after (record { key = wanted; reply = reply })
+    pub can_reply : HasReply state_after (pressed_whole wanted reply)
     pub takes : IsTrue (key_takes_memory state_after.session wanted)
     pub counts : CountsWant (request state_after.session wanted) wants_before wants_now
     pub next : IsFront (keys_pressed course.pressed ++ wanted ∷ []) (keys course.bytes)
     pub complete : IsFront (keys_pressed course.pressed ++ wanted ∷ []) (completed course.bytes)
         ⊎ NoKeyComes options now course.bytes course.reads
+    pub ended : AllCameToEnd course.pressed
     pub going : ends first course.pressed ≡ false
     pub taken : TakenAfter course.pressed
 
   -- in a whole run a step of the program's run wanted memory, in the turn of the last key pressed, which was taken
-  -- and which asked the files for nothing; none before it ended the session
+  -- and which asked the files for nothing; so many steps were made before that one, which calls a procedure, and the turn was left
+  -- there; none before it ended the session
   pub record StepWanted (wants_before wants_now : ℕ) : Type 0 where
     pub at_key : AtLastKey
-    pub steps : IsTrue (makes_steps (answered (state_after_keys first at_key.earlier) at_key.last))
+    pub number : ℕ
+    pub left : at_key.last.left_after ≡ Some number
+    pub calls : CallsNext (steps_of state_after.session) state_after.session
     pub wants : wants_now ≡ wants_before
     pub going : ends first course.pressed ≡ false
 
@@ -218,23 +226,38 @@ module _ {options : PlainOptions} {first : EditorState} {before now : ToldStream
   Stopped wants_before wants_now BadWords = ⊥
 
   -- in a whole run the bill of the turn in which memory ran out, where the key isn't among those pressed
-  abbrev pub wanted_bill : (wants_before wants_now : ℕ) → TurnWanted wants_before wants_now → ℕ
-  wanted_bill wants_before wants_now (inl last) = bill state_after (record { key = last.wanted; reply = last.reply })
-  wanted_bill wants_before wants_now (inr step) = 0
+  abbrev pub wanted_bill : (wants_before wants_now : ℕ) → TurnWanted wants_before wants_now → Bill
+  wanted_bill wants_before wants_now (inl last) = bill state_after (pressed_whole last.wanted last.reply)
+  wanted_bill wants_before wants_now (inr step) = no_bill
 
   -- by why a whole run stopped, the bill of the key after those that it pressed: of one that wanted memory, and else
   -- there is none
-  abbrev pub last_bill : (wants_before wants_now : ℕ) (status : Status) → Stopped wants_before wants_now status → ℕ
-  last_bill wants_before wants_now NoMemory (inl cut) = 0
-  last_bill wants_before wants_now NoMemory (inr (inl cut)) = 0
+  abbrev pub last_bill : (wants_before wants_now : ℕ) (status : Status) → Stopped wants_before wants_now status → Bill
+  last_bill wants_before wants_now NoMemory (inl cut) = no_bill
+  last_bill wants_before wants_now NoMemory (inr (inl cut)) = no_bill
   last_bill wants_before wants_now NoMemory (inr (inr later)) = wanted_bill wants_before wants_now later.2
-  last_bill wants_before wants_now status stopped = 0
+  last_bill wants_before wants_now status stopped = no_bill
 
-  -- the bill of a run that stopped so, from the opening screen on: those of the keys pressed together, and that of a key which wanted
-  -- memory
-  abbrev pub run_bill : (wants_before wants_now : ℕ) (status : Status) → Stopped wants_before wants_now status → ℕ
+  -- the bill of a whole run that stopped so, from the opening screen on: those of the keys pressed together, and that of
+  -- a key which wanted memory
+  abbrev pub run_bill : (wants_before wants_now : ℕ) (status : Status) → Stopped wants_before wants_now status → Bill
   run_bill wants_before wants_now status stopped =
-      bills first course.pressed + last_bill wants_before wants_now status stopped
+      both_bills (bills first course.pressed) (last_bill wants_before wants_now status stopped)
+
+  -- the shots that were due in a whole run where memory ran out in a turn: those of the turn of the key that wanted some,
+  -- as if it hadn't, or those of the last turn as if it had come to its end
+  abbrev pub wanted_shots : (wants_before wants_now : ℕ) → TurnWanted wants_before wants_now → List Shot
+  wanted_shots wants_before wants_now (inl last) =
+      all_shots ++ (turn state_after (pressed_whole last.wanted last.reply)).shots
+  wanted_shots wants_before wants_now (inr step) =
+      shot_of first.session ∷ shots first (step.at_key.earlier ++ record (step.at_key.last) { left_after = None } ∷ [])
+
+  -- how many instructions were due in a whole run that stopped so, where memory ran out in a turn, and else none is told
+  abbrev pub fetches_due : (wants_before wants_now : ℕ) (status : Status) → Stopped wants_before wants_now status → Option ℕ
+  fetches_due wants_before wants_now NoMemory (inl cut) = None
+  fetches_due wants_before wants_now NoMemory (inr (inl cut)) = None
+  fetches_due wants_before wants_now NoMemory (inr (inr later)) = Some (all_fetched (wanted_shots wants_before wants_now later.2))
+  fetches_due wants_before wants_now status stopped = None
 
   -- what the source keeps besides its bytes is as after reads that were Ok, and then no byte was lost;
   -- or as after one that wasn't, and then that read cut the run
@@ -244,11 +267,11 @@ module _ {options : PlainOptions} {first : EditorState} {before now : ToldStream
 -- ---- a whole run
 
 -- a whole run in which memory ran out where a session was opened over what these loads gave: each phrase of its
--- program was checked once at most, and nothing else was counted
+-- program was checked once at most, each instruction of its code emitted once at most, and nothing else was counted
 pub record OpeningWanted (options : PlainOptions) (before now : Told) : Type 0 where
   pub loads : PlainFirstLoads
   pub can_load : CanLoad options before.files.stored loads
-  pub counts : ChecksAtMost (opening_checks loads) before.counts now.counts
+  pub counts : CountsProgram (opening_bill loads).checks (opening_bill loads).emits before.counts now.counts
 
 -- a whole run in which no session was opened, for want of memory: nothing was read or written, the map of the files
 -- is as before, their counts haven't fallen, and nothing was counted, or what opening a session counts
@@ -282,8 +305,8 @@ pub record Ran (status : Status) (options : PlainOptions) (before now : Told) (a
   pub faults : RoseBy (load_failures loads + failures course.pressed + rescue_failure rescue)
       before.files.faults now.files.faults
   -- what was counted: under the bill of the opening and those of the keys, for the shot of the opening screen and those of the keys
-  pub counts : CountsFor (opening_checks loads + run_bill course before.files.wants wants status stopped) (all_shots course)
-      before.counts now.counts
+  pub counts : CountsFor (both_bills (opening_bill loads) (run_bill course before.files.wants wants status stopped))
+      (all_shots course) (fetches_due course before.files.wants wants status stopped) before.counts now.counts
 
 -- the editor's whole run ended so: no session was opened, or the run went to its end
 abbrev pub Ended : Status → PlainOptions → (before now : Told) → (after_reads after_fault : Type 0) → Type 0

@@ -2,20 +2,24 @@
 
 ghost use Rattle.std.specs.Prelude.{◌≡◌, ◌∷◌, [], option_to_list, IfOk, OnOk, OnErr};
 ghost use Rattle.plcs_base.specs.Count.{raised};
-ghost use Rattle.plcs_base.specs.PlainCounts.{ChecksAtMost, LaysAtMost};
 ghost use Rattle.screen_window.specs.Paint.{Paint};
 ghost use Rattle.screen_window.specs.PlainGrid.{blank_grid};
 ghost use Rattle.screen_window.specs.Screen.{window_rows};
 ghost use Rattle.screen_window.specs.Writes.{Writes};
 ghost use Rattle.synth_outside.specs.Cause.{HasCause, RisesWith};
 ghost use Rattle.synth_outside.specs.Source.{LosesAtMost};
-ghost use Rattle.synth_session.specs.SessionScreen.{grid};
+ghost use Rattle.synth_outside.specs.Files.{PlainFiles};
+ghost use Rattle.synth_session.specs.CountedKey.{CountsProgram, CountsScreen};
+ghost use Rattle.synth_session.specs.SessionScreen.{grid, screen_fetches};
 ghost use Rattle.synth_session.specs.SessionView.{plain_session, shown_grid};
+ghost use Rattle.synth_session.specs.Tick.{IsRunning, RunFits};
 ghost use Rattle.synth_top.specs.Keys.{keys, listed_keys};
-ghost use Rattle.synth_top.specs.Loads.{opening_checks, refusal_told};
+ghost use Rattle.synth_top.specs.Loads.{opening_bill, refusal_told};
 ghost use Rattle.synth_top.specs.Private.Loading.{IsInputIfLoaded, IsTreeIfLoaded};
 ghost use Rattle.synth_top.specs.Private.PlainForms.{plain_first_loads, plain_options};
 ghost use Rattle.synth_top.specs.Private.Pressing.{IsOpened, IsReady, IsUnshown, PressesKeys, ReadsByte, ended_as, moment_of};
+ghost use Rattle.synth_top.specs.Private.PaintedScreen.{going_after};
+ghost use Rattle.synth_top.specs.Private.TicksShown.{MadeTicks};
 ghost use Rattle.synth_top.specs.Private.EditorRuns.{Rescues, EditorRuns};
 ghost use Rattle.synth_top.specs.WholeRun.{opening};
 ghost use Rattle.synth_top.specs.Status.{LeftAs};
@@ -29,7 +33,7 @@ use plcs_base::{OutOfMemory, Work};
 use screen_window::{write_piece, writes_in_turn};
 use std::alloc::Global;
 use synth_outside::{Files, Sink, SinkFault, Source, SourceFault};
-use synth_session::{Answer, Key, Refusal, Session};
+use synth_session::{Answer, Key, Refusal, Session, Tick, running_keys_have_runs, ticks_go_on};
 
 /// Whether the session of a run goes on.
 #[derive(Clone, Copy, Debug)]
@@ -71,8 +75,8 @@ impl<W: Work> Editor<W> {
         requires tree { IsTreeIfLoaded loads.program }
         requires within { IsInputIfLoaded loads.input }
         ensures opened { IfOk result (λ e. IsOpened (plain_options options.now) (plain_first_loads loads) e) }
-        ensures counts { ChecksAtMost (opening_checks (plain_first_loads loads))
-            (W.counts work.old) (W.counts work.new) }
+        ensures counts { CountsProgram (opening_bill (plain_first_loads loads)).checks
+            (opening_bill (plain_first_loads loads)).emits (W.counts work.old) (W.counts work.new) }
     {
         let refusal = loads.first_refusal();
         let input = loads.input.bytes(alloc);
@@ -178,7 +182,7 @@ impl<W: Work> Editor<W> {
             .ended_as(Status::KeyLimit)
     }
 
-    /// Starts the run: clears the screen and paints the opening screen.
+    /// Starts the run: draws the opening screen, clears the screen that is there and paints it.
     #[tactic(auto, unfolding(crate::specs::WholeRun::opening))]
     fn start<K: Sink>(&mut self, screen: &mut K, work: &mut W) -> Result<(), SinkFault>
         requires ready { IsReady self.old }
@@ -192,12 +196,13 @@ impl<W: Work> Editor<W> {
             (shown_grid self.new.session ≡ grid (plain_session self.old.session)) }
         ensures session { plain_session self.new.session ≡ plain_session self.old.session }
         ensures reader { self.new.reader ≡ self.old.reader }
-        ensures counts { LaysAtMost (window_rows (plain_session self.old.session).size.rows)
-            (W.counts work.old) (W.counts work.new) }
+        ensures counts { CountsScreen (window_rows (plain_session self.old.session).size.rows)
+            (screen_fetches (plain_session self.old.session)) (W.counts work.old) (W.counts work.new) }
     {
         writes_in_turn();
+        self.session.draw(work);
         write_piece(screen, b"\x1b[0m\x1b[2J")?;
-        self.show(screen, work)
+        self.session.paint(screen)
     }
 
     /// Presses the key that isn't complete, where no byte comes any more.
@@ -279,16 +284,43 @@ impl<W: Work> Editor<W> {
             (K.faults screen.old) (K.faults screen.new) self.new }
         ensures reader { self.new.reader ≡ self.old.reader }
     {
+        running_keys_have_runs();
+        self.session.running_keys_fit();
         let Ok(answer) = self.session.press(alloc, key, files, work) else {
             return Going::Over(Status::NoMemory);
         };
-        if let Answer::Quit = answer {
-            return Going::Over(Status::Done);
+        match answer {
+            Answer::Quit => Going::Over(Status::Done),
+            Answer::Running => self.make_steps(alloc, screen, work),
+            Answer::Done | Answer::Refused(_) => going_after(self.show(screen, work)),
         }
-        match self.show(screen, work) {
-            Ok(()) => Going::On,
-            Err(SinkFault::Failed) => Going::Over(Status::WriteFault),
-            Err(SinkFault::OutOfMemory) => Going::Over(Status::NoMemory),
+    }
+
+    /// Makes the steps of a key in which the program's run goes on, tick by tick, and paints the screen after each
+    /// tick.
+    fn make_steps<K: Sink>(&mut self, alloc: Global, screen: &mut K, work: &mut W) -> Going
+        requires ready { IsReady self.old }
+        requires running { IsRunning (plain_session self.old.session) }
+        requires fits { RunFits (plain_session self.old.session) }
+        ensures made { (files : PlainFiles) → MadeTicks result
+            (moment_of self.old (K.taken screen.old) (K.wants screen.old) files (W.counts work.old))
+            (moment_of self.new (K.taken screen.new) (K.wants screen.new) files (W.counts work.new)) }
+        ensures cause { RisesWith (result ≡ Going.Over Status.WriteFault) (K.faults screen.old) (K.faults screen.new) }
+        ensures ready { IsReady self.new }
+        ensures reader { self.new.reader ≡ self.old.reader }
+    {
+        loop {
+            ticks_go_on();
+            self.session.steps_are_the_programs();
+            let Ok(tick) = self.session.tick(alloc, work) else {
+                return Going::Over(Status::NoMemory);
+            };
+            if let Going::Over(status) = going_after(self.show(screen, work)) {
+                return Going::Over(status);
+            }
+            if let Tick::Over = tick {
+                return Going::On;
+            }
         }
     }
 
@@ -304,11 +336,22 @@ impl<W: Work> Editor<W> {
             (shown_grid self.new.session ≡ grid (plain_session self.old.session)) }
         ensures session { plain_session self.new.session ≡ plain_session self.old.session }
         ensures reader { self.new.reader ≡ self.old.reader }
-        ensures counts { LaysAtMost (window_rows (plain_session self.old.session).size.rows)
-            (W.counts work.old) (W.counts work.new) }
+        ensures counts { CountsScreen (window_rows (plain_session self.old.session).size.rows)
+            (screen_fetches (plain_session self.old.session)) (W.counts work.old) (W.counts work.new) }
     {
         self.session.draw(work);
         self.session.paint(screen)
+    }
+}
+
+/// Whether the run goes on after a screen that was painted so.
+fn going_after(painted: Result<(), SinkFault>) -> Going
+    ensures { result ≡ going_after painted }
+{
+    match painted {
+        Ok(()) => Going::On,
+        Err(SinkFault::Failed) => Going::Over(Status::WriteFault),
+        Err(SinkFault::OutOfMemory) => Going::Over(Status::NoMemory),
     }
 }
 

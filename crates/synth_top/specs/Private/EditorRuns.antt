@@ -7,7 +7,7 @@ use Rattle.synth_top.specs.declared.status.Status.{Status}
 use Rattle.synth_top.specs.Counted.{CountsFor}
 use Rattle.synth_top.specs.Options.{PlainOptions}
 use Rattle.synth_top.specs.Rescue.{CountsRescueWant, IsRescue, Rescue, files_with, rescue_failure}
-use Rattle.synth_top.specs.WholeRun.{Course, LeavesSource, Stopped, Told, all_shots, run_bill, state_after}
+use Rattle.synth_top.specs.WholeRun.{Course, LeavesSource, Stopped, Told, all_shots, fetches_due, run_bill, state_after}
 use Rattle.synth_top.specs.Turn.{IsToldAs, EditorState, failures}
 
 -- a run from this state of the opening screen did this, stopped so, and left source, files and session so
@@ -20,7 +20,8 @@ pub record EditorRuns (status : Status) (options : PlainOptions) (first : Editor
   pub files : IsToldAs (state_after course).files now.files.stored
   pub faults : RoseBy (failures course.pressed) before.files.faults now.files.faults
   pub wants : before.files.wants ≤ now.files.wants
-  pub counts : CountsFor (run_bill course before.files.wants now.files.wants status stopped) (all_shots course) before.counts now.counts
+  pub counts : CountsFor (run_bill course before.files.wants now.files.wants status stopped) (all_shots course)
+      (fetches_due course before.files.wants now.files.wants status stopped) before.counts now.counts
 
 -- what is saved once a run from an editor's first screen on has ended with this status: the program of the session,
 -- where it is saved at all

@@ -2,7 +2,7 @@
 use Rattle.std.specs.Prelude.{◌≡◌, ◌⊎◌, ℕ, ◌≤◌, true, false, IsTrue, List, [], ◌∷◌, ◌++◌, length, take, Option, Some, None}
 use Rattle.std.specs.Io.KnownBytes.{Appends, Consumes, IsAtEnd}
 use Rattle.plcs_base.specs.Count.{Rose, RoseBy}
-use Rattle.plcs_base.specs.PlainCounts.{ChecksAtMost, PlainCounts}
+use Rattle.plcs_base.specs.PlainCounts.{PlainCounts}
 use Rattle.synth_outside.specs.Files.{PlainFiles}
 use Rattle.screen_window.specs.PlainGrid.{PlainGrid, blank_grid}
 use Rattle.synth_session.specs.declared.answer.Answer.{Answer}
@@ -12,25 +12,26 @@ use Rattle.synth_session.specs.KeyRequest.{request}
 use Rattle.synth_session.specs.MemoryTaken.{key_takes_memory}
 use Rattle.synth_session.specs.PlainSession.{PlainSession}
 use Rattle.synth_session.specs.Press.{press}
-use Rattle.synth_session.specs.SessionView.{IsSession, plain_session, shown_grid}
+use Rattle.synth_session.specs.SessionView.{CountsWanted, IsReadyForKey, plain_session, shown_grid}
+use Rattle.synth_session.specs.Tick.{CallsNext}
 use Rattle.synth_top.specs.declared.editor.Editor.{Editor}
 use Rattle.synth_top.specs.declared.editor.Going.{Going}
 use Rattle.synth_top.specs.declared.editor.Going.TheVariants.{On, Over}
 use Rattle.synth_top.specs.declared.status.Status.{Status}
 use Rattle.synth_top.specs.declared.status.Status.TheVariants.{Done, ReadFault, WriteFault, NoMemory, BadWords, KeyLimit}
-use Rattle.synth_top.specs.Counted.{CountsFor}
+use Rattle.synth_top.specs.Counted.{CountsFor, all_fetched}
 use Rattle.synth_top.specs.Loads.{PlainFirstLoads, first_session}
 use Rattle.synth_top.specs.Options.{PlainOptions}
 use Rattle.synth_top.specs.WholeRun.{painted_over}
 use Rattle.synth_outside.specs.Cause.{RisesWith}
-use Rattle.synth_top.specs.Turn.{HasReply, HaveReplies, IsToldAs, PressedKey, EditorState, bill, bills, state_after_keys, ends, failures, grids, keys_pressed, shots}
+use Rattle.synth_top.specs.Turn.{AllCameToEnd, HasReply, HaveReplies, IsToldAs, LeftAtLast, PressedKey, EditorState, bills, state_after_keys, ends, failures, grids, keys_pressed, pressed_whole, shots, steps_of, turn}
 use Rattle.synth_top.specs.Keys.{IsFront}
 
 -- ---- an editor
 
--- an editor is ready for keys that are pressed: the parts of its session keep their conditions
+-- an editor is ready for keys that are pressed: its session keeps its conditions
 abbrev pub IsReady : {W : Type 0} → Editor W → Type 0
-IsReady e = IsSession e.session
+IsReady e = IsReadyForKey e.session
 
 -- an editor at a moment of a run before any key is pressed, and before its first screen
 pub record IsUnshown {W : Type 0} (e : Editor W) : Type 0 where
@@ -101,11 +102,13 @@ pub record AllShown (before now : Moment) (pressed : List PressedKey) : Type 0 w
   pub wrote : Appends before.taken now.taken (painted_over before.shown (grids (state_at before) pressed))
   pub unwanted : now.wanted ≡ before.wanted
   pub faults : RoseBy (failures pressed) before.files.faults now.files.faults
-  pub counts : CountsFor (bills (state_at before) pressed) (shots (state_at before) pressed) before.counts now.counts
+  pub ended : AllCameToEnd pressed
+  pub counts : CountsFor (bills (state_at before) pressed) (shots (state_at before) pressed) None before.counts now.counts
 
 -- what pressing these keys did, up to a last one, between two moments of a run: none before it ended the session, all
--- screens before its own were written, and of its own so much that `count` bytes were written in all
-pub record UpToLast (before now : Moment) (earlier : List PressedKey) (last : PressedKey) (count : ℕ)
+-- screens before its own were written, and of its own so much that `count` bytes were written in all; where memory ran
+-- out, so many instructions were due
+pub record UpToLast (before now : Moment) (earlier : List PressedKey) (last : PressedKey) (count : ℕ) (due : Option ℕ)
     : Type 0 where
   pub can_reply : HaveReplies (state_at before) (earlier ++ last ∷ [])
   pub going : ends (state_at before) earlier ≡ false
@@ -116,7 +119,9 @@ pub record UpToLast (before now : Moment) (earlier : List PressedKey) (last : Pr
   pub whole : length (painted_over before.shown (grids (state_at before) earlier)) ≤ count
   pub faults : RoseBy (failures (earlier ++ last ∷ [])) before.files.faults now.files.faults
   pub wants : now.files.wants ≡ before.files.wants
-  pub counts : CountsFor (bills (state_at before) (earlier ++ last ∷ [])) (shots (state_at before) (earlier ++ last ∷ [])) before.counts now.counts
+  pub left : LeftAtLast (state_at before) (earlier ++ last ∷ [])
+  pub counts : CountsFor (bills (state_at before) (earlier ++ last ∷ [])) (shots (state_at before) (earlier ++ last ∷ [])) due
+      before.counts now.counts
 
 -- between two moments of a run all of these keys were pressed
 pub record KeysShown (keys : List Key) (before now : Moment) : Type 0 where
@@ -131,7 +136,7 @@ pub record KeysQuit (keys : List Key) (before now : Moment) : Type 0 where
   pub last : PressedKey
   pub front : IsFront (keys_pressed (earlier ++ last ∷ [])) keys
   pub count : ℕ
-  pub up_to : UpToLast before now earlier last count
+  pub up_to : UpToLast before now earlier last count None
   pub quit : ends (state_at before) (earlier ++ last ∷ []) ≡ true
   pub all : length (painted_over before.shown (grids (state_at before) (earlier ++ last ∷ []))) ≤ count
 
@@ -141,11 +146,31 @@ pub record KeysCut (keys : List Key) (before now : Moment) : Type 0 where
   pub last : PressedKey
   pub front : IsFront (keys_pressed (earlier ++ last ∷ [])) keys
   pub count : ℕ
-  pub up_to : UpToLast before now earlier last count
+  pub up_to : UpToLast before now earlier last count None
   pub going : ends (state_at before) (earlier ++ last ∷ []) ≡ false
 
--- between two moments of a run these keys were pressed up to one that wanted memory, and so did nothing: from these
--- counts on it checked phrases alone, under the bill that it has with this reply, which what it asks can have
+-- between two moments of a run these keys were pressed up to one in whose turn a step of the program's run wanted memory
+pub record KeysStepWanted (keys : List Key) (before now : Moment) : Type 0 where
+  pub earlier : List PressedKey
+  pub last : PressedKey
+  pub front : IsFront (keys_pressed (earlier ++ last ∷ [])) keys
+  pub number : ℕ
+  pub left : last.left_after ≡ Some number
+  pub count : ℕ
+  pub up_to : UpToLast before now earlier last count
+      (Some (all_fetched (shots (state_at before) (earlier ++ record last { left_after = None } ∷ []))))
+  pub all : length (painted_over before.shown (grids (state_at before) (earlier ++ last ∷ []))) ≤ count
+  pub calls : CallsNext (steps_of now.session) now.session
+  pub going : ends (state_at before) (earlier ++ last ∷ []) ≡ false
+
+-- what is fetched in the press of a key is fetched for the shots of its turn: no more is fetched in it than for them
+abbrev pub PressesFetchForShots : Type 0
+PressesFetchForShots =
+    (state : EditorState) (key : Key) (reply : Reply)
+    → (press state.session key reply).fetches ≤ all_fetched (turn state (pressed_whole key reply)).shots
+
+-- these keys were pressed up to one that wanted memory, and so did nothing: from these counts on it counted under the
+-- outcome that it has with this reply, which what it asks can have
 pub record KeysWanted (keys : List Key) (before now : Moment) : Type 0 where
   pub pressed : List PressedKey
   pub wanted : Key
@@ -155,8 +180,9 @@ pub record KeysWanted (keys : List Key) (before now : Moment) : Type 0 where
   pub counted : PlainCounts
   pub shown : AllShown before (record now { counts = counted }) pressed
   pub reply : Reply
-  pub can_reply : HasReply (state_after_keys (state_at before) pressed) (record { key = wanted; reply = reply })
-  pub checks : ChecksAtMost (bill (state_after_keys (state_at before) pressed) (record { key = wanted; reply = reply })) counted now.counts
+  pub can_reply : HasReply (state_after_keys (state_at before) pressed) (pressed_whole wanted reply)
+  pub work : CountsWanted (press (state_after_keys (state_at before) pressed).session wanted reply) counted now.counts
+  pub law : PressesFetchForShots
 
 -- what became of the keys, by whether the session goes on
 abbrev pub Pressed : Going → List Key → Moment → Moment → Type 0
@@ -164,7 +190,7 @@ Pressed On keys before now = KeysShown keys before now
 Pressed (Over Done) keys before now = KeysQuit keys before now
 Pressed (Over WriteFault) keys before now = KeysCut keys before now
 Pressed (Over NoMemory) keys before now =
-    (KeysCut keys before now × Rose before.wanted now.wanted) ⊎ KeysWanted keys before now
+    (KeysCut keys before now × Rose before.wanted now.wanted) ⊎ (KeysWanted keys before now ⊎ KeysStepWanted keys before now)
 Pressed (Over ReadFault) keys before now = ⊥
 Pressed (Over BadWords) keys before now = ⊥
 Pressed (Over KeyLimit) keys before now = ⊥

@@ -1,14 +1,15 @@
 -- The session is opened over what was loaded, and then told the first refusal; told so, that is the first session of the
 -- definition. A message changes neither the size nor the grids.
 use Rattle.std.proofs.Common.{◌≡◌, Option, Some, None, refl, sym, ap, subst, ◌∙◌, List, ℕ, option_map}
-use Rattle.plcs_base.specs.PlainCounts.{ChecksAtMost}
 use Rattle.template_tree.specs.Programs.PlainTree.{PlainTree, roomless_tree}
 use Rattle.file_store.specs.declared.refusal.FileRefusal.{FileRefusal}
 use Rattle.screen_window.specs.PlainGrid.{blank_grid}
 use Rattle.synth_session.specs.CheckedPhrases.{phrase_count}
+use Rattle.synth_session.specs.CountedKey.{CountsProgram}
 use Rattle.synth_session.specs.OpenedSession.{opened_session, tree_at_first}
 use Rattle.synth_session.specs.PlainScreenSize.{PlainScreenSize}
 use Rattle.synth_session.specs.PlainSession.{PlainSession}
+use Rattle.synth_session.specs.ProgramCode.{code_length}
 use Rattle.synth_session.specs.SessionView.{plain_session}
 use Rattle.synth_top.specs.declared.loading.FileLoad.{FileLoad}
 use Rattle.synth_top.specs.Loads.{first_refusal, first_session, loaded_input, loaded_program, refusal_told}
@@ -55,13 +56,15 @@ returns-clause-opened g c =
       session = told;
     }
 
--- each phrase of the program that was loaded was checked at most, or of the new one
+-- each phrase of the program that was loaded was checked at most, and each instruction emitted, or of the new one
 pub returns-clause-counts : goal.returns-clause-counts
 returns-clause-counts g c =
-    subst (λ (tree : Option PlainTree). ChecksAtMost (phrase_count (tree_at_first tree)) (g.W.Work.counts c.args.work.now) (g.W.Work.counts c.open.new.work))
+    subst
+    (λ (tree : Option PlainTree). CountsProgram (phrase_count (tree_at_first tree)) (code_length (tree_at_first tree)) (g.W.Work.counts c.args.work.now) (g.W.Work.counts c.open.new.work))
     (ap (λ (tree : Option PlainTree). option_map roomless_tree tree) c.loaded.ensures ∙ same_program c.args.loads.program) c.in_ok-session.ensures.counts
 
 pub returns-in_err-session-clause-counts : goal.returns-in_err-session-clause-counts
 returns-in_err-session-clause-counts g c =
-    subst (λ (tree : Option PlainTree). ChecksAtMost (phrase_count (tree_at_first tree)) (g.W.Work.counts c.args.work.now) (g.W.Work.counts c.open.new.work))
+    subst
+    (λ (tree : Option PlainTree). CountsProgram (phrase_count (tree_at_first tree)) (code_length (tree_at_first tree)) (g.W.Work.counts c.args.work.now) (g.W.Work.counts c.open.new.work))
     (ap (λ (tree : Option PlainTree). option_map roomless_tree tree) c.loaded.ensures ∙ same_program c.args.loads.program) c.in_err-session.ensures.counts

@@ -1,9 +1,11 @@
 -- The session does what the key's outcome says, by what was replied; so by whether it wanted memory, whether the key ended the
--- session, and whether its screen was written, the one key was wanted, quit, cut or shown, as a list of one.
-use Rattle.std.proofs.Common.{ap, refl, arith, inl, inr, Err}
+-- session, whether a run of the program went on in it, and whether its screens were written, the one key was wanted, quit, cut or
+-- shown, as a list of one.
+use Rattle.std.proofs.Common.{ap, refl, sym, subst, ◌∙◌, arith, inl, inr}
 use Rattle.synth_session.specs.PlainScreens.{PlainScreens}
-use Rattle.synth_top.proofs.CountsInTurn.{counts_checks, counts_turn}
-use Rattle.synth_top.proofs.OneKey.{one_shown, one_quit, one_cut, one_wanted}
+use Rattle.synth_session.specs.Tick.{RunFits}
+use Rattle.synth_top.specs.Turn.{makes_steps}
+use Rattle.synth_top.proofs.OneKey.{one_painted, one_quit, one_ticked, one_wanted, painted_caused, painted_may_end, still_answer, ticks_may_end}
 use Rattle.synth_top.proofs.editor.Editor.press.Goals as goal
 
 -- the key wanted memory
@@ -12,9 +14,9 @@ returns-in_default-clause-presses g c =
     let pressed = c.in_default.ensures.pressed in
     record {
       ends = tt;
-      pressed = inr
-          (one_wanted c.args.key _ _ pressed.does.met.0 pressed.files pressed.does.met.1 (ap (λ (z : PlainScreens). z.shown) pressed.does.screens) refl refl
-          pressed.counts);
+      pressed = inr (inl
+          (one_wanted c.args.key _ _ c.running_keys_have_runs.ensures.still pressed.does.met.0 pressed.files pressed.does.met.1
+          (record { shown = ap (λ (z : PlainScreens). z.shown) pressed.does.screens; taken = refl; wanted = refl }) pressed.counts));
       cause = record { later = omega arith; rose = λ e. absurd (cc); same = λ other. refl; last = λ e. refl };
       ready = pressed.does.session;
     }
@@ -25,72 +27,49 @@ returns-in-Quit-clause-presses g c =
     let pressed = c.in-Ok.ensures.pressed in
     record {
       ends = tt;
-      pressed = one_quit c.args.key c.in-Ok.answer _ _ _
-          (record { reply = pressed.reply; files = pressed.files; session = pressed.does.met.0; answered = pressed.does.met.1 }) refl c.in-Quit.is refl
-          (counts_checks _ _ _ pressed.counts);
+      pressed = one_quit c.args.key c.in-Ok.answer _ _
+          (record { reply = pressed.reply; files = pressed.files; session = pressed.does.met.0; answered = pressed.does.met.1 })
+          (record { shown = ap (λ (z : PlainScreens). z.shown) pressed.does.screens; taken = refl; wanted = refl })
+          c.running_keys_have_runs.ensures.still c.in-Quit.is pressed.counts;
       cause = record { later = omega arith; rose = λ e. absurd (cc); same = λ other. refl; last = λ e. refl };
       ready = pressed.does.session;
     }
 
--- its screen was written
-pub returns-in-Ok-show-clause-presses : goal.returns-in-Ok-show-clause-presses
-returns-in-Ok-show-clause-presses g c =
+-- a run of the program goes on in it, which fits the program
+pub make_steps-requires-clause-fits : goal.make_steps-requires-clause-fits
+make_steps-requires-clause-fits g c =
     let pressed = c.in-Ok.ensures.pressed in
-    let wrote = c.in-Ok-show.ensures.wrote in
+    subst RunFits (sym pressed.does.met.0)
+    (c.running_keys_fit.ensures c.args.key pressed.reply _ pressed.files.can (sym pressed.does.met.1 ∙ c.in-Running.is))
+
+-- a run of the program went on in it
+pub returns-in-Running-clause-presses : goal.returns-in-Running-clause-presses
+returns-in-Running-clause-presses g c =
+    let pressed = c.in-Ok.ensures.pressed in
+    let made = c.make_steps.ensures.made (g.F.Files.told c.press.new.files) in
     record {
-      ends = tt;
-      pressed = one_shown c.args.key c.in-Ok.answer _ _ _
-          (record { reply = pressed.reply; files = pressed.files; session = pressed.does.met.0; answered = pressed.does.met.1 }) c.show.ensures.session
-          c.in_default-answer.not-Quit _ (ap (λ (z : PlainScreens). z.shown) pressed.does.screens) wrote.all c.in-Ok-show.ensures.shown
-          (wrote.want.same (λ e. absurd (cc))) (counts_turn _ _ _ _ _ pressed.counts c.show.ensures.counts);
-      cause = record {
-        later = wrote.cause.later;
-        rose = λ e. absurd (cc);
-        same = λ other. wrote.cause.same (λ e. absurd (cc));
-        last = wrote.cause.last;
-      };
-      ready = c.show.ensures.ready;
+      ends = ticks_may_end c.make_steps.result _ _ made;
+      pressed = one_ticked c.args.key c.in-Ok.answer _ _
+          (record { reply = pressed.reply; files = pressed.files; session = pressed.does.met.0; answered = pressed.does.met.1 })
+          (record { shown = ap (λ (z : PlainScreens). z.shown) pressed.does.screens; taken = refl; wanted = refl })
+          (ap makes_steps c.in-Running.is) pressed.counts _ c.make_steps.result made;
+      cause = c.make_steps.ensures.cause;
+      ready = c.make_steps.ensures.ready;
     }
 
--- a write of its screen failed
-pub returns-in-Err-Failed-clause-presses : goal.returns-in-Err-Failed-clause-presses
-returns-in-Err-Failed-clause-presses g c =
+-- no run went on in it, and its screen was written, or cut short
+pub returns-in-Done-clause-presses : goal.returns-in-Done-clause-presses
+returns-in-Done-clause-presses g c =
     let pressed = c.in-Ok.ensures.pressed in
-    let wrote = c.in-Err-Failed.ensures.wrote in
-    record {
-      ends = tt;
-      pressed = one_cut c.args.key c.in-Ok.answer _ _ _
-          (record { reply = pressed.reply; files = pressed.files; session = pressed.does.met.0; answered = pressed.does.met.1 }) c.show.ensures.session
-          c.in_default-answer.not-Quit _ (ap (λ (z : PlainScreens). z.shown) pressed.does.screens) wrote.front
-          (counts_turn _ _ _ _ _ pressed.counts c.show.ensures.counts);
-      cause = record {
-        later = wrote.cause.later;
-        rose = λ e. wrote.cause.rose (ap Err c.in-Err-Failed.field-0-is);
-        same = λ other. absurd (other refl);
-        last = wrote.cause.last;
-      };
+    let still = still_answer c.in-Ok.answer c.in-Done.is in
+    let wrote = c.show.ensures.wrote in
+    rw c.going_after.ensures
+    (record {
+      ends = painted_may_end c.show.result;
+      pressed = one_painted c.args.key c.in-Ok.answer _ _
+          (record { reply = pressed.reply; files = pressed.files; session = pressed.does.met.0; answered = pressed.does.met.1 })
+          (record { shown = ap (λ (z : PlainScreens). z.shown) pressed.does.screens; taken = refl; wanted = refl })
+          still.0 still.1 _ c.show.ensures.session refl pressed.counts c.show.ensures.counts _ _ c.show.result wrote c.show.ensures.shown;
+      cause = painted_caused c.show.result _ _ wrote.cause;
       ready = c.show.ensures.ready;
-    }
-
--- a write of its screen wanted memory
-pub returns-in-Err-OutOfMemory-clause-presses : goal.returns-in-Err-OutOfMemory-clause-presses
-returns-in-Err-OutOfMemory-clause-presses g c =
-    let pressed = c.in-Ok.ensures.pressed in
-    let wrote = c.in-Err-OutOfMemory.ensures.wrote in
-    record {
-      ends = tt;
-      pressed = inl (
-        one_cut c.args.key c.in-Ok.answer _ _ _
-            (record { reply = pressed.reply; files = pressed.files; session = pressed.does.met.0; answered = pressed.does.met.1 }) c.show.ensures.session
-            c.in_default-answer.not-Quit _ (ap (λ (z : PlainScreens). z.shown) pressed.does.screens) wrote.front
-            (counts_turn _ _ _ _ _ pressed.counts c.show.ensures.counts),
-        wrote.want.rose (ap Err c.in-Err-OutOfMemory.field-0-is),
-      );
-      cause = record {
-        later = wrote.cause.later;
-        rose = λ e. absurd (cc);
-        same = λ other. wrote.cause.same (λ e. absurd (cc));
-        last = wrote.cause.last;
-      };
-      ready = c.show.ensures.ready;
-    }
+    })
