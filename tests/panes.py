@@ -51,15 +51,18 @@ class Screen:
     """A screen of a program: its rows from the top, and the cursor's place, which counts from 0.
 
     `lines` are the program's from the window's first one, `prompt` is what stands before the typed line, and
-    `stop` the cursor's place in the window, where it stands while nothing is typed.
+    `stop` the cursor's place in the window, where it stands while nothing is typed. `at` is the line at which a
+    run stands, from 0, if one does, and `output` its last lines, three at most.
     """
 
-    def __init__(self, rows, cols, lines, prompt, stop, typed="", message=""):
+    def __init__(self, rows, cols, lines, prompt, stop, typed="", message="", at=None, output=()):
         window = rows - 6
         lines = (lines + [""] * window)[:window]  # what stands between two backquotes is in negative image
         # The last column stays blank, and the typed line leaves the one before it for the cursor.
         entry = prompt + typed[max(0, len(typed) - (cols - 2 - len(prompt))) :]
-        shown = [f"  {line}"[: cols - 1 + line.count("`")] for line in lines] + ["-" * (cols - 1), "", "", "", message, entry]
+        margin = lambda number: "> " if number == at else "  "
+        shown = [f"{margin(number)}{line}"[: cols - 1 + line.count("`")] for number, line in enumerate(lines)]
+        shown += ["-" * (cols - 1), *output, *[""] * (3 - len(output)), message, entry]
         self.rows = [line.rstrip() for line in shown]
         self.cursor = (len(entry), rows - 1) if typed else stop
 

@@ -1,6 +1,6 @@
 //! What is asked of sessions over a new program, a new one each time.
 
-ghost use Rattle.synth_session.specs.SessionView.{IsSession};
+ghost use Rattle.synth_session.specs.SessionView.{IsReadyForKey};
 
 use crate::file_cases::{failing_files, tell_content};
 use crate::repainting::{compare_screen, keep_screens};
@@ -43,7 +43,7 @@ fn answer(
     asked: Asked,
     words: &[Vec<u8>],
 ) -> Option<()>
-    requires { IsSession sitting.old.session }
+    requires { IsReadyForKey sitting.old.session }
 {
     match asked {
         Asked::Answer => tell_answer(alloc, sitting, scene),
@@ -57,7 +57,7 @@ fn answer(
 
 /// Tells what the session that is asked answers to its last key, and how many slots are live then.
 fn tell_answer(alloc: Global, sitting: &mut Sitting, scene: &mut Scene) -> Option<()>
-    requires { IsSession sitting.old.session }
+    requires { IsReadyForKey sitting.old.session }
 {
     sitting.press_all(alloc, scene.keys.as_slice())?;
     if let Some(answer) = sitting.answer {
@@ -71,7 +71,7 @@ fn tell_answer(alloc: Global, sitting: &mut Sitting, scene: &mut Scene) -> Optio
 
 /// Tells the listing of the program of a session that is asked for it after the keys.
 fn listing(alloc: Global, sitting: &mut Sitting, scene: &mut Scene) -> Option<()>
-    requires { IsSession sitting.old.session }
+    requires { IsReadyForKey sitting.old.session }
 {
     sitting.press_all(alloc, scene.keys.as_slice())?;
     tell_listing(alloc, &sitting.session, &mut scene.told);
@@ -80,7 +80,7 @@ fn listing(alloc: Global, sitting: &mut Sitting, scene: &mut Scene) -> Option<()
 
 /// Tells the listing of the program of a session that is asked for it.
 fn tell_listing(alloc: Global, session: &Session<Counts>, told: &mut Told)
-    requires { IsSession session.now }
+    requires { IsReadyForKey session.now }
 {
     let mut listing = Told::new(alloc);
     session.listing(&mut listing);
@@ -94,7 +94,7 @@ fn tell_message(
     scene: &mut Scene,
     refusal: Refusal,
 ) -> Option<()>
-    requires { IsSession sitting.old.session }
+    requires { IsReadyForKey sitting.old.session }
 {
     sitting.press_all(alloc, scene.keys.as_slice())?;
     sitting.paint();
@@ -108,8 +108,8 @@ fn tell_message(
 
 /// Shows the refusal in the session of which its message is asked.
 fn show(session: &mut Session<Counts>, refusal: Refusal)
-    requires { IsSession session.old }
-    ensures { IsSession session.new }
+    requires { IsReadyForKey session.old }
+    ensures { IsReadyForKey session.new }
 {
     session.show_message(refusal);
 }
@@ -117,7 +117,7 @@ fn show(session: &mut Session<Counts>, refusal: Refusal)
 /// Asks a session over a new program to rescue it after the keys, where the calls of the files of these numbers
 /// fail. Tells the save, and what the file of rescued programs holds.
 fn rescue(alloc: Global, sitting: &mut Sitting, scene: &mut Scene, fails: &[Vec<u8>]) -> Option<()>
-    requires { IsSession sitting.old.session }
+    requires { IsReadyForKey sitting.old.session }
 {
     sitting.press_all(alloc, scene.keys.as_slice())?;
     let mut files = failing_files(alloc, fails)?;
@@ -128,7 +128,7 @@ fn rescue(alloc: Global, sitting: &mut Sitting, scene: &mut Scene, fails: &[Vec<
 
 /// Tells what comes of the rescue for which a session is asked.
 fn tell_rescue(session: &Session<Counts>, files: &mut MemFiles, told: &mut Told)
-    requires { IsSession session.now }
+    requires { IsReadyForKey session.now }
 {
     told.value_line(&session.rescue(files));
 }

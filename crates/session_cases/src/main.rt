@@ -89,12 +89,13 @@ enum Case {
     File,
     Content,
     Told,
+    Counted,
     Feed,
     Status,
 }
 
 /// The first words of the cases on whole sessions.
-static CASES: [(&[u8], Case); 16] = [
+static CASES: [(&[u8], Case); 17] = [
     (b"from", Case::From),
     (b"on", Case::On),
     (b"listing", Case::Listing),
@@ -109,6 +110,7 @@ static CASES: [(&[u8], Case); 16] = [
     (b"file", Case::File),
     (b"content", Case::Content),
     (b"told", Case::Told),
+    (b"counted", Case::Counted),
     (b"feed", Case::Feed),
     (b"status", Case::Status),
 ];
@@ -132,6 +134,7 @@ fn play(alloc: Global, scene: &mut Scene, case: Case, arguments: &[Vec<u8>]) -> 
         (Case::File, [name, content]) => file_cases::file(scene, name, content),
         (Case::Content, [name]) => file_cases::content(scene, name),
         (Case::Told, [keys]) => file_cases::told(alloc, scene, keys),
+        (Case::Counted, [before, last]) => whole_run_cases::counted(alloc, scene, before, last),
         (Case::Feed, words) => key_cases::feed(words, &mut scene.told),
         (Case::Status, []) => key_cases::status(&mut scene.told),
         _ => None,

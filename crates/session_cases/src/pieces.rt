@@ -34,3 +34,25 @@ pub fn is_place(bytes: &[u8]) -> bool {
     };
     behind.iter().find(|byte| !byte.is_ascii_digit()) == Some(&b';')
 }
+
+/// How many screens these bytes are: each ends with a piece that is a place alone, that of the cursor.
+pub fn count_screens(written: &[u8]) -> usize {
+    let mut count = 0usize;
+    for at in 0..written.len() {
+        if is_place(&written[at..]) && is_alone(&written[at..]) {
+            count = count.saturating_add(1);
+        }
+    }
+    count
+}
+
+/// Whether a piece that begins here is a place alone: another one, or nothing, is behind it.
+fn is_alone(bytes: &[u8]) -> bool {
+    match bytes.split(|byte| *byte == b'H').next() {
+        Some(place) => match bytes.get(place.len().saturating_add(1)..) {
+            Some(behind) => behind.is_empty() || is_place(behind),
+            None => false,
+        },
+        None => false,
+    }
+}

@@ -16,12 +16,13 @@ pub struct Failing {
 /// No read and no write of a run of the editor fails.
 pub const NOTHING: Failing = Failing { read: 0, write: 0 };
 
-/// What a run ended with, what it left unread, and what it wrote.
+/// What a run ended with, what it left unread, what it wrote, and what it counted.
 #[derive(Drop)]
 pub struct Played {
     pub status: Status,
     keys: MemSource,
     screen: MemSink,
+    counts: Counts,
 }
 
 impl Played {
@@ -31,7 +32,13 @@ impl Played {
             status: Status::Done,
             keys: MemSource::new(Vec::new(alloc), Vec::new(alloc)),
             screen: MemSink::new(alloc, Vec::new(alloc)),
+            counts: Counts::default(),
         }
+    }
+
+    /// How many instructions were fetched in a run of the editor.
+    pub fn fetched(&self) -> u64 {
+        self.counts.fetched
     }
 
     /// All bytes that the sink took in a run of the editor.
@@ -65,18 +72,13 @@ pub fn play(
 ) -> Option<Played> {
     let mut keys = source_of(alloc, keys, failing.read)?;
     let mut screen = MemSink::new(alloc, [failing.write].to_vec(alloc).ok()?);
-    let status = synth(
-        alloc,
-        words,
-        &mut keys,
-        &mut screen,
-        files,
-        &mut Counts::default(),
-    );
+    let mut counts = Counts::default();
+    let status = synth(alloc, words, &mut keys, &mut screen, files, &mut counts);
     Some(Played {
         status,
         keys,
         screen,
+        counts,
     })
 }
 

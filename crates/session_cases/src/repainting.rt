@@ -1,7 +1,7 @@
 //! Cases that compare screens painted over one another with screens painted anew.
 
 ghost use Rattle.std.specs.Prelude.{◌≡◌};
-ghost use Rattle.synth_session.specs.SessionView.{IsSession};
+ghost use Rattle.synth_session.specs.SessionView.{IsReadyForKey};
 
 use crate::asking::{Asked, ask};
 use crate::scene::Scene;
@@ -31,7 +31,7 @@ pub fn repaint(alloc: Global, scene: &mut Scene) -> Option<()> {
 
 /// Paints the screen after each byte of the keys at hand over the one before, and keeps what was painted.
 pub fn keep_screens(alloc: Global, sitting: &mut Sitting, scene: &mut Scene) -> Option<()>
-    requires { IsSession sitting.old.session }
+    requires { IsReadyForKey sitting.old.session }
 {
     sitting.paint();
     let keys = scene.keys.as_slice();
@@ -50,7 +50,7 @@ pub fn compare_screen(
     scene: &mut Scene,
     count: usize,
 ) -> Option<()>
-    requires { IsSession sitting.old.session }
+    requires { IsReadyForKey sitting.old.session }
 {
     let keys = scene.keys.as_slice();
     sitting.press_bytes(alloc, &keys[..count.min(keys.len())])?;

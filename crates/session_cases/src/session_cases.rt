@@ -24,7 +24,7 @@ pub fn on(alloc: Global, scene: &mut Scene, keys: &[u8]) -> Option<()> {
 }
 
 /// Refusals that are shown in a session, and the words that name them.
-static REFUSALS: [(&[u8], Refusal); 22] = [
+static REFUSALS: [(&[u8], Refusal); 24] = [
     (b"UnknownCommand", Refusal::UnknownCommand),
     (b"NotHere", Refusal::NotHere),
     (b"Syntax", Refusal::Phrase(PhraseFault::Syntax(0))),
@@ -55,7 +55,9 @@ static REFUSALS: [(&[u8], Refusal); 22] = [
     (b"PhraseFull", Refusal::PhraseFull),
     (b"FloatNotThere", Refusal::FloatNotThere),
     (b"AtEdge", Refusal::AtEdge),
-    (b"NotBuilt", Refusal::NotBuilt),
+    (b"NoRun", Refusal::NoRun),
+    (b"RunEnded", Refusal::RunEnded),
+    (b"NoHistory", Refusal::NoHistory),
 ];
 
 /// `tell REFUSAL`: what painting writes once a session, in which the keys at hand were pressed, shows this

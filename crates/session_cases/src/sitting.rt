@@ -1,12 +1,13 @@
 //! Sessions on a screen of 12 rows and 40 columns, pressed key by key.
 
-ghost use Rattle.std.specs.Prelude.{IfSome};
-ghost use Rattle.synth_session.specs.SessionView.{IsSession};
+ghost use Rattle.std.specs.Prelude.{◌≡◌, IfSome};
+ghost use Rattle.synth_session.specs.SessionView.{IsReadyForKey, plain_session};
+ghost use Rattle.synth_session.specs.Tick.{IsRunning};
 
 use plcs_base::Counts;
 use std::alloc::Global;
 use synth_outside::{MemFiles, MemSink};
-use synth_session::{Answer, ScreenSize, Session};
+use synth_session::{Answer, ScreenSize, Session, Tick, running_keys_have_runs, ticks_go_on};
 use synth_top::{Key, KeyReader, Keys};
 
 /// A session that is pressed, beside which there are no files.
@@ -24,7 +25,7 @@ pub struct Sitting {
 impl Sitting {
     /// A sitting over a new program, of which nothing is painted.
     pub fn new(alloc: Global) -> Option<Sitting>
-        ensures { IfSome result (λ sitting. IsSession sitting.session) }
+        ensures { IfSome result (λ sitting. IsReadyForKey sitting.session) }
     {
         let session = opened(alloc, ScreenSize::new(12, 40))?;
         Some(Sitting {
@@ -38,8 +39,8 @@ impl Sitting {
 
     /// Presses the keys of these bytes in the sitting, the last of which end there.
     pub fn press_all(&mut self, alloc: Global, bytes: &[u8]) -> Option<()>
-        requires { IsSession self.old.session }
-        ensures { IsSession self.new.session }
+        requires { IsReadyForKey self.old.session }
+        ensures { IsReadyForKey self.new.session }
     {
         self.press_bytes(alloc, bytes)?;
         let last = self.reader.end();
@@ -48,8 +49,8 @@ impl Sitting {
 
     /// Presses the keys in the sitting that these bytes complete.
     pub fn press_bytes(&mut self, alloc: Global, bytes: &[u8]) -> Option<()>
-        requires { IsSession self.old.session }
-        ensures { IsSession self.new.session }
+        requires { IsReadyForKey self.old.session }
+        ensures { IsReadyForKey self.new.session }
     {
         for byte in bytes {
             let keys = self.reader.feed(*byte);
@@ -60,8 +61,8 @@ impl Sitting {
 
     /// Presses these keys in the sitting.
     fn press_keys(&mut self, alloc: Global, keys: Keys) -> Option<()>
-        requires { IsSession self.old.session }
-        ensures { IsSession self.new.session }
+        requires { IsReadyForKey self.old.session }
+        ensures { IsReadyForKey self.new.session }
     {
         self.press(alloc, keys.first)?;
         self.press(alloc, keys.second)
@@ -69,20 +70,23 @@ impl Sitting {
 
     /// Presses the key in the sitting, if there is one.
     fn press(&mut self, alloc: Global, key: Option<Key>) -> Option<()>
-        requires { IsSession self.old.session }
-        ensures { IsSession self.new.session }
+        requires { IsReadyForKey self.old.session }
+        ensures { IsReadyForKey self.new.session }
     {
         if let Some(key) = key {
             let answer = pressed(alloc, &mut self.session, key, &mut self.files)?;
             self.answer = Some(answer);
+            if let Answer::Running = answer {
+                run_on(alloc, &mut self.session)?;
+            }
         }
         Some(())
     }
 
     /// Paints the screen of the sitting's session behind what was painted.
     pub fn paint(&mut self)
-        requires { IsSession self.old.session }
-        ensures { IsSession self.new.session }
+        requires { IsReadyForKey self.old.session }
+        ensures { IsReadyForKey self.new.session }
     {
         draw(&mut self.session);
         paint(&mut self.session, &mut self.screen);
@@ -91,7 +95,7 @@ impl Sitting {
 
 /// The session of a sitting: over a new program, on a screen of this size.
 fn opened(alloc: Global, size: ScreenSize) -> Option<Session<Counts>>
-    ensures { IfSome result IsSession }
+    ensures { IfSome result IsReadyForKey }
 {
     Session::open(alloc, size, None, Vec::new(alloc), &mut Counts::default()).ok()
 }
@@ -103,26 +107,45 @@ fn pressed(
     key: Key,
     files: &mut MemFiles,
 ) -> Option<Answer>
-    requires { IsSession session.old }
-    ensures { IsSession session.new }
+    requires { IsReadyForKey session.old }
+    ensures ready { IsReadyForKey session.new }
+    ensures running { IfSome result (λ answer. answer ≡ Answer.Running → IsRunning (plain_session session.new)) }
 {
+    running_keys_have_runs();
     session
         .press(alloc, key, files, &mut Counts::default())
         .ok()
 }
 
+/// Makes all steps of the run of a sitting's session, whose key was answered so that the run goes on.
+fn run_on(alloc: Global, session: &mut Session<Counts>) -> Option<()>
+    requires ready { IsReadyForKey session.old }
+    requires running { IsRunning (plain_session session.old) }
+    ensures { IsReadyForKey session.new }
+{
+    ticks_go_on();
+    loop {
+        session.steps_are_the_programs();
+        match session.tick(alloc, &mut Counts::default()) {
+            Ok(Tick::Again) => {}
+            Ok(Tick::Over) => return Some(()),
+            Err(_) => return None,
+        }
+    }
+}
+
 /// Draws the screen of a sitting's session.
 fn draw(session: &mut Session<Counts>)
-    requires { IsSession session.old }
-    ensures { IsSession session.new }
+    requires { IsReadyForKey session.old }
+    ensures { IsReadyForKey session.new }
 {
     session.draw(&mut Counts::default());
 }
 
 /// Paints the screen of a sitting's session.
 fn paint(session: &mut Session<Counts>, screen: &mut MemSink)
-    requires { IsSession session.old }
-    ensures { IsSession session.new }
+    requires { IsReadyForKey session.old }
+    ensures { IsReadyForKey session.new }
 {
     // Where a write failed, less is painted, which the case shows.
     let _ = session.paint(screen);

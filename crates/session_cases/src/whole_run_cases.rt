@@ -1,6 +1,6 @@
 //! Cases of whole runs: how they end, what they write, and what they leave of the keys.
 
-use crate::pieces::{count_pieces, is_place, tell_pieces};
+use crate::pieces::{count_pieces, count_screens, is_place, tell_pieces};
 use crate::playing::{Failing, NOTHING, Played, play, play_alone, play_on, push_word};
 use crate::scene::Scene;
 use case_script::{Told, meaning, number_of};
@@ -115,6 +115,22 @@ fn first_pieces(whole: &[u8], part: &[u8]) -> Option<usize> {
     } else {
         None
     }
+}
+
+/// `counted BEFORE LAST`: how many screens the editor shows for the last keys behind those before, and how many
+/// instructions it fetches, on a screen of 12 rows and 40 columns, where the keys end both times.
+pub fn counted(alloc: Global, scene: &mut Scene, before: &[u8], last: &[u8]) -> Option<()> {
+    let first = play_on(alloc, b"12", b"40", before)?;
+    let whole = play_behind(alloc, before, last)?;
+    scene
+        .told
+        .value(&count_screens(written_behind(&first, &whole)?));
+    scene.told.text(" screens, ");
+    scene
+        .told
+        .value(&whole.fetched().saturating_sub(first.fetched()));
+    scene.told.line(" fetched");
+    Some(())
 }
 
 /// `bytes BEFORE LAST`: what the editor writes for the last keys behind those before, on a screen of 12 rows
