@@ -11,6 +11,9 @@ TOP = os.path.dirname(os.path.dirname(os.path.realpath(__file__)))
 PROGRAM = os.path.abspath(os.environ.get("SYNTH_PROGRAM") or f"{TOP}/crates/synth_program/out/synth_program")
 SECONDS = 100  # for one run
 
+# Where a screen's bytes end: the sequence that sends the cursor to its place, while one that is followed by a row's text begins that row.
+SCREEN_END = re.compile(rb"\x1b\[\d+;\d+H(?=\x1b\[\d+;\d+H|\Z)")
+
 # The keys that stand in brackets in a text of keys, and their bytes.
 KEYS = {
     "Enter": b"\r",
@@ -105,6 +108,14 @@ class Played:
         sizes |= {name: int(words[at + 1]) for at, name in enumerate(words) if name in sizes}
         ran = subprocess.run([PROGRAM, *words], cwd=folder, input=keys, stdout=subprocess.PIPE, stderr=subprocess.PIPE, timeout=SECONDS)
         self.status, self.painted, self.told = ran.returncode, ran.stdout, ran.stderr.decode()
-        terminal = PlainTerminal(*sizes.values()).take(ran.stdout)
+        self.size = tuple(sizes.values())
+        terminal = PlainTerminal(*self.size).take(ran.stdout)
         self.rows, self.negatives, self.cursor = terminal.rows(), terminal.negatives(), (terminal.row, terminal.col)
         self.window, self.message, self.prompt = self.rows[:-6], self.rows[-2], self.rows[-1]
+
+    def screens(self):
+        """The rows of each screen that was painted, one screen after the other."""
+        terminal, begin = PlainTerminal(*self.size), 0
+        for end in SCREEN_END.finditer(self.painted):
+            yield terminal.take(self.painted[begin : end.end()]).rows()
+            begin = end.end()
