@@ -2,13 +2,16 @@
 
 ghost use Rattle.std.specs.Prelude.{◌≡◌, IfSome};
 ghost use Rattle.synth_session.specs.SessionView.{IsReadyForKey, plain_session};
-ghost use Rattle.synth_session.specs.Tick.{IsRunning};
+ghost use Rattle.synth_session.specs.Tick.{IsRunning, RunFits};
 
 use plcs_base::Counts;
 use std::alloc::Global;
-use synth_outside::{MemFiles, MemSink};
+use synth_outside::{Files, MemFiles, MemSink};
 use synth_session::{Answer, ScreenSize, Session, Tick, running_keys_have_runs, ticks_go_on};
 use synth_top::{Key, KeyReader, Keys};
+
+/// As many ticks of one key at most show a step each.
+const MOST_TICKS: u32 = 100;
 
 /// A session that is pressed, beside which there are no files.
 #[derive(Drop)]
@@ -101,30 +104,34 @@ fn opened(alloc: Global, size: ScreenSize) -> Option<Session<Counts>>
 }
 
 /// Presses the key in the session of a sitting, and gives what it answers.
-fn pressed(
+fn pressed<F: Files>(
     alloc: Global,
     session: &mut Session<Counts>,
     key: Key,
-    files: &mut MemFiles,
+    files: &mut F,
 ) -> Option<Answer>
     requires { IsReadyForKey session.old }
     ensures ready { IsReadyForKey session.new }
     ensures running { IfSome result (λ answer. answer ≡ Answer.Running → IsRunning (plain_session session.new)) }
+    ensures fits { IfSome result (λ answer. answer ≡ Answer.Running → RunFits (plain_session session.new)) }
 {
     running_keys_have_runs();
-    session
-        .press(alloc, key, files, &mut Counts::default())
-        .ok()
+    session.running_keys_fit();
+    match session.press(alloc, key, files, &mut Counts::default()) {
+        Ok(answer) => Some(answer),
+        Err(_) => None,
+    }
 }
 
 /// Makes all steps of the run of a sitting's session, whose key was answered so that the run goes on.
 fn run_on(alloc: Global, session: &mut Session<Counts>) -> Option<()>
     requires ready { IsReadyForKey session.old }
     requires running { IsRunning (plain_session session.old) }
+    requires fits { RunFits (plain_session session.old) }
     ensures { IsReadyForKey session.new }
 {
     ticks_go_on();
-    loop {
+    for tick in 0..=MOST_TICKS {
         session.steps_are_the_programs();
         match session.tick(alloc, &mut Counts::default()) {
             Ok(Tick::Again) => {}
@@ -132,6 +139,7 @@ fn run_on(alloc: Global, session: &mut Session<Counts>) -> Option<()>
             Err(_) => return None,
         }
     }
+    None
 }
 
 /// Draws the screen of a sitting's session.
