@@ -1,0 +1,12 @@
+use Rattle.std.proofs.Common.{◌≡◌, ℕ, ◌<◌, ◌≤◌, length, slice_index}
+use Rattle.lane_rows.proofs.cell_rows.last_difference.Given as goal
+
+-- the rows are equal from the place on
+abbrev pub invariant-loop-end : goal.invariant-loop-end
+invariant-loop-end l = record {
+  within : l.end ≤ length l.a;
+  equal : (k : ℕ) → l.end ≤ k → k < length l.a → slice_index l.a k ≡ slice_index l.b k;
+}
+
+abbrev pub decreases-loop-end : goal.decreases-loop-end
+decreases-loop-end l = l.end
