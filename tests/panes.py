@@ -20,6 +20,7 @@ TOP = os.path.dirname(os.path.dirname(os.path.realpath(__file__)))
 SYNTH = f"{TOP}/bin/synth"
 PROGRAM = f"{TOP}/crates/synth_program/out/synth_program"
 KEEPING_PROGRAM = f"{TOP}/crates/synth_kept/out/synth_kept"
+FILTER = f"{TOP}/crates/terminal_filter/out/terminal_filter"
 PROMPT = "prompt>"
 
 
@@ -100,6 +101,11 @@ def program_of(script):
         if words_of(process)[:1] in ([PROGRAM], [KEEPING_PROGRAM]):
             return process
     return None
+
+
+def filter_of(script):
+    """The program between terminal and editor that a script runs, once it does."""
+    return next((it for it in children(script) if words_of(it)[:1] == [FILTER]), None)
 
 
 def is_gone(process):
@@ -194,6 +200,12 @@ class Terminal:
         """The script and the program, once they run."""
         found = until(lambda: [(it, program_of(it)) for it in children(self.shell) if program_of(it)])
         return found[0]
+
+    def is_rung(self):
+        """Whether a bell was rung since this was asked last."""
+        rung = self.tmux("display-message", "-p", "-t", self.name, "#{window_bell_flag}").strip() == "1"
+        self.tmux("kill-session", "-C", "-t", self.name)
+        return rung
 
     def settings(self):
         with open(self.tty, "rb", buffering=0, opener=lambda path, flags: os.open(path, flags | os.O_NOCTTY)) as tty:

@@ -1,0 +1,2 @@
+-- Words that private contracts alone cite: nobody has to believe them.
+pub mod PassedSoFar
