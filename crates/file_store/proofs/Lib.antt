@@ -21,8 +21,11 @@ pub mod LineTexts
 pub mod ReadListings
 pub mod RefusedLines
 pub mod LoadedTrees
--- `split_line`: where the first line of a text ends
+-- `divided`, `line_starts` and `split_line`: where the first line of a text ends, and where the others start
 pub mod LineEnds
+pub mod LineStarts
+-- `read_text_line`: what no line of a listing has
+pub mod PrintedLines
 -- `only` of `read_listing`: the listing of a program within the limits isn't too long
 pub mod ListingLengths
 -- `only` of `read_listing`

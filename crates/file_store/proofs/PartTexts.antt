@@ -24,6 +24,7 @@ use Rattle.file_store.specs.Private.LineLaws.{LineLaws}
 use Rattle.file_store.specs.Private.LineReading.{AreNoSegments, AreReadAfter, IsCut, IsLineFront, IsNoPart, IsPartText, IsSegmentsText, taken_off}
 use Rattle.file_store.proofs.Fillings.{some_is}
 use Rattle.file_store.proofs.Heads.{line_part}
+use Rattle.file_store.proofs.Texts.{first_of_text}
 
 -- what is found makes more
 pub finds_too : {X : Type 0} (A : X → Type 0) (B : X → Type 0) (N M : Type 0) (r : Result X NotRead) → ((x : X) → A x → B x) → (N → M) → Finds A N r → Finds B M r
@@ -253,3 +254,16 @@ pub read_whole : (segments : List PlainSegment) (x : List ℕ) (parts all : List
     → IsSegmentsText segments x all
 read_whole segments x parts all none h =
     subst (λ z. IsSegmentsText segments x z) (sym (h.1 ∙ ap (λ z. z ++ h.0) none)) h.2
+
+-- a text with another first byte than the words doesn't begin with them
+pub other_first : (byte first : ℕ) (text words later others : List ℕ) → text ≡ byte ∷ later → words ≡ first ∷ others
+    → (byte == first) ≡ false → (rest : List ℕ) → text ≢ words ++ rest
+other_first byte first text words later others is starts differ rest e =
+    false≢true
+    (sym differ ∙ eq-eqb byte first (ap (first_of_text byte) (sym is ∙ e ∙ ap (λ w. w ++ rest) starts)))
+
+-- an empty text doesn't begin with words that aren't empty
+pub none_first : (first : ℕ) (text words others : List ℕ) → length text ≡ 0 → words ≡ first ∷ others
+    → (rest : List ℕ) → text ≢ words ++ rest
+none_first first text words others is starts rest e =
+    omega (arith, is, ap length (e ∙ ap (λ w. w ++ rest) starts))

@@ -1,6 +1,7 @@
 pub mod LineLaws
 pub mod Reader
 pub mod LineReading
+pub mod LineStarts
 pub mod Finds
 pub mod Views
 pub mod NextSegment

@@ -1,5 +1,6 @@
 //! The reader of listings.
-ghost use Rattle.std.specs.Prelude.{◌≡◌, ◌<◌, ◌≤◌, ◌+◌, ◌∷◌, ◌++◌, [], true, false, if◌then◌else◌, IfErr, IfOk, MatchOption, length};
+ghost use Rattle.std.specs.Prelude.{◌≡◌, ◌<◌, ◌≤◌, ◌+◌, ◌∷◌, ◌++◌, ◌||◌, [], true, false, if◌then◌else◌, IfErr, IfOk, MatchOption, length};
+ghost use Rattle.std.specs.List.{list_all};
 ghost use Rattle.template_tree.specs.Programs.Build.{built_tree};
 ghost use Rattle.template_tree.specs.Programs.Limit.{deepest_path, most_slots};
 ghost use Rattle.template_tree.specs.Listings.Listing.{Spells};
@@ -7,14 +8,19 @@ ghost use Rattle.template_tree.specs.Programs.PlainTree.{Forest, forest};
 ghost use Rattle.template_tree.specs.Programs.Program.{IsProgram};
 ghost use Rattle.template_tree.specs.Programs.Slots.{count, depth};
 ghost use Rattle.template_tree.specs.Programs.Tree.{IsTree};
+ghost use Rattle.lane_rows.specs.TextByte.{is_text_byte};
 ghost use Rattle.file_store.specs.Limit.{longest_listing};
 ghost use Rattle.file_store.specs.Loaded.{HasNoEnd, Loaded, ReadsOnly, Refused, RefusesOnly};
 ghost use Rattle.file_store.specs.declared.refusal.FileRefusal.{FileRefusal};
+ghost use Rattle.file_store.specs.Private.Finds.{Finds};
+ghost use Rattle.file_store.specs.Private.LineReading.{Says, SaysNothing};
+ghost use Rattle.file_store.specs.Private.LineStarts.{AreStarts};
 ghost use Rattle.file_store.specs.Private.Reader.{opens};
 ghost use Rattle.file_store.specs.Private.Reading.{IsLineRefused, IsPast, IsTaken, refused_in};
-ghost use Rattle.file_store.specs.Private.Views.{come_of, saying_of};
+ghost use Rattle.file_store.specs.Private.Views.{come_of, said_of, saying_of};
 
 mod filling;
+mod line_starts;
 mod lines;
 mod open_list;
 mod open_nodes;
@@ -23,11 +29,13 @@ mod said;
 
 use crate::limit::LONGEST_LISTING;
 use crate::line_laws::line_laws;
+use crate::reader::line_starts::line_starts;
 use crate::reader::lines::read_line;
 use crate::reader::open_list::OpenNodes;
 use crate::reader::open_nodes::{finish, line_taken};
-use crate::reader::said::Saying;
+use crate::reader::said::{Said, Saying};
 use crate::refusal::FileRefusal;
+use lane_rows::all_printable;
 use phrase_parser::NotRead;
 use std::alloc::Global;
 use template_tree::{DEEPEST_PATH, MOST_SLOTS, Nodes, Tree};
@@ -57,15 +65,19 @@ fn read_lines(alloc: Global, bytes: &[u8]) -> Result<Tree, FileRefusal>
     if bytes.len() > LONGEST_LISTING {
         return Err(FileRefusal::TooLong);
     }
+    let starts = line_starts(alloc, bytes)?;
     let mut reader = Reader {
+        printable: all_printable(bytes),
         stack: OpenNodes::new(alloc),
         lines: 0,
         opened: 0,
     };
     let mut rest = bytes;
-    while let Some((line, more)) = split_line(rest) {
+    let mut left = starts.as_slice();
+    while let Some((line, more, later)) = split_line(rest, left) {
         reader = reader.taken(alloc, line)?;
         rest = more;
+        left = later;
     }
     let Reader { stack, lines, .. } = reader;
     let number = lines + 1;
@@ -81,6 +93,8 @@ fn read_lines(alloc: Global, bytes: &[u8]) -> Result<Tree, FileRefusal>
 /// How far the reader of a listing has come.
 #[derive(Drop)]
 struct Reader {
+    /// Whether each byte of the listing is printable or a line end.
+    printable: bool,
     stack: OpenNodes,
     /// How many lines were read.
     lines: u32,
@@ -99,7 +113,7 @@ impl Reader {
     {
         line_laws();
         self.lines += 1;
-        let said = match read_line(alloc, line) {
+        let said = match read_text_line(alloc, self.printable, line) {
             Ok(said) => said,
             Err(fault) => return Err(refused_in(self.lines, fault)),
         };
@@ -117,6 +131,25 @@ impl Reader {
             }
         }
     }
+}
+
+/// Reads a whole line of a listing, unless its bytes tell already that no listing has it.
+fn read_text_line(alloc: Global, printable: bool, line: &[u8]) -> Result<Said, NotRead>
+    ensures says { Finds (λ said. Says line.now (said_of said)) (SaysNothing line.now) result }
+    ensures small { IfOk result (λ said. said.level ≤ length line.now) }
+{
+    line_laws();
+    if !has_text_bytes(printable, line) {
+        return Err(NotRead::Refused);
+    }
+    read_line(alloc, line)
+}
+
+/// Whether a listing may have the bytes of the line, which are looked at only where it isn't known of all its bytes.
+fn has_text_bytes(printable: bool, line: &[u8]) -> bool
+    ensures { result ≡ (printable || list_all is_text_byte line.now) }
+{
+    printable || all_printable(line)
 }
 
 /// Why the reader refuses a listing whose line of this number wasn't read.
@@ -169,19 +202,19 @@ fn is_left(bytes: &[u8]) -> bool
     bytes.len() > 0
 }
 
-/// The first line of what the reader has left of a listing's text, and what stands behind its end.
-fn split_line(text: &[u8]) -> Option<(&[u8], &[u8])>
+/// The first line of what the reader has left of a listing's text, and what stands behind its end, with the starts
+/// of the lines that are left then.
+fn split_line<'a, 'b>(text: &'a [u8], starts: &'b [u32]) -> Option<(&'a [u8], &'a [u8], &'b [u32])>
+    requires starts { AreStarts text.now starts.now }
     ensures { MatchOption result (HasNoEnd text.now)
-        (λ parts. (text.now ≡ parts.0.now ++ (10 ∷ parts.1.now)) × HasNoEnd parts.0.now) }
+        (λ parts. (text.now ≡ parts.0.now ++ (10 ∷ parts.1.now)) × HasNoEnd parts.0.now
+        × AreStarts parts.1.now parts.2.now) }
 {
-    let mut place = 0;
-    while place < text.len() {
-        if text[place] == b'\n' {
-            return Some((&text[..place], &text[place + 1..]));
-        }
-        place += 1;
-    }
-    None
+    let Some((start, later)) = starts.split_first() else {
+        return None;
+    };
+    let end = text.len() - *start as usize - 1;
+    Some((&text[..end], &text[end + 1..], later))
 }
 
 /// The tree of the program that the reader found, which is within the limits.

@@ -59,7 +59,7 @@ fn line_ends_in(bytes: &[u8], at: usize) -> usize
         .count_ones() as usize
 }
 
-/// Whether each byte of a text is printable or a line end, looked at byte by byte from a place on, before which each is.
+/// Whether each byte of a text is printable or a line end, looked at byte by byte from a place on; each before it is.
 fn all_printable_from(bytes: &[u8], at: usize) -> bool
     requires within { at ≤ length bytes.now }
     requires front { PassBetween is_text_byte bytes.now 0 at }

@@ -2,10 +2,14 @@
 pub mod Limits
 -- `lines.rt`: rows of cells, one of which is changed
 pub mod ChangedLines
--- `row_text.rt`: rows that are shown, cell by cell
+-- `shown_cells.rt`: numbers that are shown, one more, several more and 8 at once
+pub mod ShownCells
+-- `row_text.rt`: what is put into the first cells of a row, and blanks behind it
 pub mod ShownRows
 -- Grid::show: grids of which a row was drawn
 pub mod DrawnRows
+-- `are_equal`: rows of one width, from the first place at which they differ
+pub mod EqualRows
 -- `cells` of visible_len: blanks at the end of a row
 pub mod VisibleCells
 -- `Writes` of the painting: fronts of bytes, bytes taken piece by piece, and bytes one after the other

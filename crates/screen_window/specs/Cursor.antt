@@ -39,7 +39,8 @@ is_part part (Some own) = own == part
 -- how many bytes of the cursor's line stand before the part of the number, at which the cursor is
 abbrev pub bytes_before : ℕ → List Stretch → ℕ
 bytes_before part [] = 0
-bytes_before part (stretch ∷ stretches) = if is_part part stretch.part then 0 else length stretch.bytes + bytes_before part stretches
+bytes_before part (stretch ∷ stretches) =
+    if is_part part stretch.part then 0 else length stretch.bytes + bytes_before part stretches
 
 -- how many bytes of the node's first line stand before the stop, behind the level's blanks
 abbrev pub stop_offset : PlainNode → Option ℕ → ℕ
@@ -72,11 +73,13 @@ position_in_row cols col (Some row) = record { row = row + 1; col = cut_col cols
 abbrev pub stop_position : (rows cols : ℕ) → PlainView → Option PlainNode → CursorPosition
 stop_position rows cols view None = record { row = 1; col = 1 }
 stop_position rows cols view (Some node) =
-    position_in_row cols (stop_col view.stop.path view.stop.part node) (node_row (rows - OTHER_ROWS) view node.label.slot)
+    position_in_row cols (stop_col view.stop.path view.stop.part node)
+    (node_row (rows - OTHER_ROWS) view node.label.slot)
 
 -- ---- the cursor
 
 -- the place of the cursor: behind the typed line, or where that is empty at its stop
 abbrev pub cursor_position : ℕ → ℕ → PlainView → CursorPosition
 cursor_position rows cols view =
-    if length view.typed == 0 then stop_position rows cols view (node_at view.items view.stop.path) else typed_position rows cols view
+    if length view.typed == 0 then stop_position rows cols view (node_at view.items view.stop.path)
+    else typed_position rows cols view

@@ -67,7 +67,8 @@ cursor_part (NodeKind.Filled template) None = None
 abbrev pub part_mark : MarkMap → PlainNode → Option ℕ → Option MarkKind
 part_mark marks node None = None
 part_mark marks node (Some part) =
-    if is_some (part_at node.label.parts part) then get marks record { slot = record { 0 = node.label.slot }; part = part } else None
+    if is_some (part_at node.label.parts part)
+    then get marks record { slot = record { 0 = node.label.slot }; part = part } else None
 
 -- the mark of the phrase or the assignment at the cursor, if it has one
 abbrev pub cursor_mark : MarkMap → Option ℕ → Option PlainNode → Option MarkKind
@@ -81,7 +82,8 @@ message_or (byte ∷ bytes) mark = byte ∷ bytes
 
 -- the row of the message of a view, in which the mark at the cursor may stand
 abbrev pub message_row : PlainView → List ℕ
-message_row view = message_or view.message (marked_text (cursor_mark view.marks view.stop.part (node_at view.items view.stop.path)))
+message_row view =
+    message_or view.message (marked_text (cursor_mark view.marks view.stop.part (node_at view.items view.stop.path)))
 
 -- ---- the prompt and the typed line
 

@@ -49,7 +49,8 @@ is_procedure kind = is_outer (row_of kind).sort && is_some (row_of kind).last
 -- the line of a node on which a point of a run is shown: point 1 of a procedure on its last line, every other on its
 -- first
 abbrev pub point_line : Label → ℕ → NodeLine
-point_line label point = record { slot = label.slot; kind = if is_procedure label.kind && (point == 1) then Last else First }
+point_line label point =
+    record { slot = label.slot; kind = if is_procedure label.kind && (point == 1) then Last else First }
 
 -- the line on which a place of a run inside a node is shown: where the node is elided, the line that stands for its
 -- refinement

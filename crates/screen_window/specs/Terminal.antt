@@ -61,7 +61,8 @@ with_line z line = record z { lines = slice_set z.lines z.above line }
 -- the terminal after a printable byte: the cell at the cursor is set in the current image, and the cursor moves right,
 -- but at the last column
 abbrev pub typed : PlainTerminal → ℕ → PlainTerminal
-typed z byte = record (with_line z (slice_set (cursor_line z) z.before (screen_cell z.negative byte))) { before = min (z.before + 1) (z.cols - 1) }
+typed z byte = record (with_line z (slice_set (cursor_line z) z.before (screen_cell z.negative byte)))
+    { before = min (z.before + 1) (z.cols - 1) }
 
 -- the terminal with blanks from the cursor to the row's end
 abbrev pub tail_blanked : PlainTerminal → PlainTerminal
@@ -98,7 +99,8 @@ ended z Other byte = z
 
 -- what a terminal makes of one byte, by what was taken of a sequence
 abbrev pub terminal_after_in : Sequence → PlainTerminal → ℕ → PlainTerminal
-terminal_after_in Absent z byte = if byte == 27 then with_sequence z Escape else (if is_printable byte then typed z byte else z)
+terminal_after_in Absent z byte =
+    if byte == 27 then with_sequence z Escape else (if is_printable byte then typed z byte else z)
 terminal_after_in Escape z byte = with_sequence z (if byte == 91 then Behind Nothing else Absent)
 terminal_after_in (Behind gathered) z byte =
     if is_digit byte then with_sequence z (Behind (with_digit gathered (byte - 48)))

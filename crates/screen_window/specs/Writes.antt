@@ -18,6 +18,7 @@ pub record Writes {T : Type 0} (bytes : List ℕ) (result : Result T SinkFault)
 -- where the first gave no answer, what the sink took is a front of both
 pub record WritesInTurn : Type 0 where
   pub both : (first second : List ℕ) (result : Result Unit SinkFault) (a b c : Option (List ℕ)) (p q s u v w : ℕ)
-      → Writes {T = Unit} first (Ok tt) a b p q u v → Writes second result b c q s v w → Writes (first ++ second) result a c p s u w
+      → Writes {T = Unit} first (Ok tt) a b p q u v → Writes second result b c q s v w
+      → Writes (first ++ second) result a c p s u w
   pub cut : (first second : List ℕ) (fault : SinkFault) (a b : Option (List ℕ)) (p q u v : ℕ)
       → Writes {T = Unit} first (Err fault) a b p q u v → Writes {T = Unit} (first ++ second) (Err fault) a b p q u v

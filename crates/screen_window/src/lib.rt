@@ -13,6 +13,7 @@ mod painted_terminal;
 mod painting;
 mod row_text;
 mod sequence;
+mod shown_cells;
 mod terminal;
 mod view;
 

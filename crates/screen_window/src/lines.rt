@@ -61,7 +61,7 @@ pub fn set_tail(lines: &mut Vec<Vec<u16>>, row: usize, col: usize)
 }
 
 /// Blanks the cells of a single row from a column on, which counts from 0.
-fn blank_tail(line: &mut Vec<u16>, col: usize)
+pub fn blank_tail(line: &mut Vec<u16>, col: usize)
     requires { col ≤ length line.old.items }
     ensures { line.new.items ≡ take col line.old.items ++ replicate (length line.old.items - col) blank }
 {

@@ -1,6 +1,7 @@
 //! Painting: the bytes that turn one screen into another, and writing them.
 
-ghost use Rattle.std.specs.Prelude.{◌≡◌, ◌+◌, ◌≤◌, [], ◌++◌, false, decimal, length, take};
+ghost use Rattle.std.specs.Prelude.{◌≡◌, ◌+◌, ◌≤◌, [], ◌++◌, false, decimal, length, nat_eq, take};
+ghost use Rattle.std.specs.Cmp.Lexicographic.{pointwise};
 ghost use Rattle.arrayvec.specs.ArrayVec.{array_vec_len};
 ghost use Rattle.screen_window.specs.declared.limit.TheConstants.{MOST_COLS};
 ghost use Rattle.screen_window.specs.Paint.{Paint, go_to, image_change, row_piece, row_paint, rows_paint, spelled, visible};
@@ -9,6 +10,7 @@ ghost use Rattle.screen_window.specs.Writes.{Writes, WritesInTurn};
 use crate::grid::Grid;
 use crate::limit::MOST_COLS;
 use arrayvec::ArrayVec;
+use lane_rows::{first_difference, last_nonblank};
 use synth_outside::{Sink, SinkFault};
 
 /// The bytes that paint one row with all its changes of image.
@@ -45,17 +47,26 @@ fn paint_rows<K: Sink>(old: &Grid, new: &Grid, sink: &mut K) -> Result<(), SinkF
 
 /// Paints one row, whose number counts from 1, where it differs.
 fn paint_row<K: Sink>(number: u16, old: &[u16], new: &[u16], sink: &mut K) -> Result<(), SinkFault>
-    requires { length new.now ≤ MOST_COLS }
+    requires width { length old.now ≡ length new.now }
+    requires short { length new.now ≤ MOST_COLS }
     ensures { Writes (row_paint number old.now new.now) result
         (K.taken sink.old) (K.taken sink.new)
         (K.faults sink.old) (K.faults sink.new) (K.wants sink.old) (K.wants sink.new) }
 {
-    if old == new {
+    if are_equal(old, new) {
         return Ok(());
     }
     let mut piece = Piece::new();
     put_row_piece(&mut piece, number, new);
     write_piece(sink, piece.as_slice())
+}
+
+/// Whether two rows of one width are equal, so that nothing has to be painted.
+fn are_equal(old: &[u16], new: &[u16]) -> bool
+    requires { length old.now ≡ length new.now }
+    ensures { result ≡ pointwise nat_eq old.now new.now }
+{
+    first_difference(old, new).is_none()
 }
 
 /// Paints the place of the cursor.
@@ -151,11 +162,10 @@ fn visible_len(cells: &[u16]) -> usize
     ensures cells { take result cells.now ≡ visible cells.now }
     ensures within { result ≤ length cells.now }
 {
-    let mut len = cells.len();
-    while len > 0 && cells[len - 1] == 32 {
-        len -= 1;
+    match last_nonblank(cells) {
+        Some(last) => last + 1,
+        None => 0,
     }
-    len
 }
 
 /// Writes a piece of bytes to the sink; what that takes in part is written on. It takes no memory of its

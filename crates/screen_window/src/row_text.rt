@@ -1,12 +1,14 @@
 //! What is written in one row of a grid, and how the cells of the row show it.
 
-ghost use Rattle.std.specs.Prelude.{◌≡◌, ◌<◌, ℕ, ◌+◌, ◌-◌, List, ◌++◌, length, nat_lt, if◌then◌else◌, replicate, slice_index_or};
-ghost use Rattle.plcs_base.specs.Byte.{is_printable};
-ghost use Rattle.screen_window.specs.ScreenCell.{blank, is_screen_cell};
-ghost use Rattle.screen_window.specs.ShownRow.{margin, shown_cell, shown_row};
-ghost use Rattle.screen_window.specs.Private.RowCells.{text_cells};
+ghost use Rattle.std.specs.Prelude.{◌≡◌, ◌≤◌, ℕ, ◌-◌, List, ◌++◌, drop, length, replicate};
+ghost use Rattle.screen_window.specs.ShownRow.{margin, shown_row};
+ghost use Rattle.screen_window.specs.Private.RowCells.{ShowsFront, text_cells};
 
-use crate::lines::BLANK;
+use crate::lines::blank_tail;
+use crate::shown_cells::{show_bytes, show_cells};
+
+/// The cell of a dash in default image.
+const DASH: u16 = 45;
 
 /// What is written in a row of a grid.
 #[derive(Clone, Copy)]
@@ -23,24 +25,32 @@ pub enum RowText<'a> {
     Input(&'a [u8], &'a [u8]),
 }
 
-/// Shows what is written in a row by the row's cells.
+/// Shows what is written in a row by the row's cells: the first of them are put, and the others are blanked.
 pub fn show_row(line: &mut Vec<u16>, text: RowText<'_>)
     ensures { line.new.items ≡ shown_row (length line.old.items) (text_cells (length line.old.items) text.entry) }
 {
+    let end = put_text(line.as_mut_slice(), text);
+    blank_tail(line, end);
+}
+
+/// Puts what is written in a row into its first cells, and tells how many those are: never the last one.
+fn put_text(line: &mut [u16], text: RowText<'_>) -> usize
+    ensures { ShowsFront (length line.old) (text_cells (length line.old) text.entry) line.new result }
+{
     match text {
         RowText::Line(runs, cells) => {
-            show_bytes(line, 0, margin(runs));
-            show_cells(line, 2, cells);
+            let end = put_bytes(line, 0, margin(runs));
+            put_cells(line, end, cells)
         }
         RowText::Code(bytes) => {
-            show_bytes(line, 0, margin(false));
-            show_bytes(line, 2, bytes);
+            let end = put_bytes(line, 0, margin(false));
+            put_bytes(line, end, bytes)
         }
-        RowText::Text(bytes) => show_bytes(line, 0, bytes),
-        RowText::Dashes => show_dashes(line),
+        RowText::Text(bytes) => put_bytes(line, 0, bytes),
+        RowText::Dashes => put_dashes(line),
         RowText::Input(prompt, typed) => {
-            show_bytes(line, 0, prompt);
-            show_bytes(line, prompt.len(), typed);
+            let end = put_bytes(line, 0, prompt);
+            put_bytes(line, end, typed)
         }
     }
 }
@@ -53,93 +63,52 @@ fn margin(runs: bool) -> &'static [u8]
     if runs { b"> " } else { b"  " }
 }
 
-/// Shows bytes in a row from a column on, which counts from 0.
-fn show_bytes(line: &mut Vec<u16>, from: usize, bytes: &[u8])
-    ensures first { from ≡ 0 → line.new.items ≡ shown_row (length line.old.items) bytes.now }
-    ensures behind { (front : List ℕ) → length front ≡ from → line.old.items ≡ shown_row (length line.old.items) front
-        → line.new.items ≡ shown_row (length line.old.items) (front ++ bytes.now) }
+/// Puts bytes into a row's cells from a column on, which counts from 0, as many as go before the last column,
+/// and tells the column after them.
+fn put_bytes(line: &mut [u16], from: usize, bytes: &[u8]) -> usize
+    requires { from ≤ length line.old }
+    ensures shown { (front : List ℕ) → ShowsFront (length line.old) front line.old from
+        → ShowsFront (length line.old) (front ++ bytes.now) line.new result }
+    ensures within { result ≤ length line.new }
 {
-    let cols = line.len();
-    for col in from..cols {
-        line[col] = shown_in(cols, col, byte_at(bytes, col - from));
-    }
+    let count = bytes.len().min(room(line, from));
+    show_bytes(line, from, &bytes[..count]);
+    from + count
 }
 
-/// Shows cells in a row from a column on, which counts from 0.
-fn show_cells(line: &mut Vec<u16>, from: usize, cells: &[u16])
-    ensures { (front : List ℕ) → length front ≡ from → line.old.items ≡ shown_row (length line.old.items) front
-        → line.new.items ≡ shown_row (length line.old.items) (front ++ cells.now) }
+/// Puts cells into a row's cells from a column on, which counts from 0, as many as go before the last column,
+/// and tells the column after them.
+fn put_cells(line: &mut [u16], from: usize, cells: &[u16]) -> usize
+    requires { from ≤ length line.old }
+    ensures shown { (front : List ℕ) → ShowsFront (length line.old) front line.old from
+        → ShowsFront (length line.old) (front ++ cells.now) line.new result }
+    ensures within { result ≤ length line.new }
 {
-    let cols = line.len();
-    for col in from..cols {
-        line[col] = shown_in(cols, col, cell_at(cells, col - from));
-    }
+    let count = cells.len().min(room(line, from));
+    show_cells(line, from, &cells[..count]);
+    from + count
 }
 
-/// Writes dashes in one row of a grid, so that its cells show them in all columns but the last.
-fn show_dashes(line: &mut Vec<u16>)
-    ensures { line.new.items ≡ shown_row (length line.old.items) (replicate (length line.old.items - 1) 45) }
+/// How many cells of a row can be put from a column on, which counts from 0: those before the last column.
+fn room(line: &[u16], from: usize) -> usize
+    ensures { result ≡ length line.now - 1 - from }
 {
-    let cols = line.len();
-    for col in 0..cols {
-        line[col] = if col + 1 < cols {
-            u16::from(b'-')
-        } else {
-            BLANK
-        };
-    }
+    line.len().saturating_sub(1).saturating_sub(from)
 }
 
-/// The byte in this place of what is shown in a row, or a blank behind the last.
-fn byte_at(bytes: &[u8], place: usize) -> u16
-    ensures { result ≡ slice_index_or bytes.now place blank }
+/// Puts dashes into all cells of a row but the last, and tells how many.
+fn put_dashes(line: &mut [u16]) -> usize
+    ensures { ShowsFront (length line.old) (replicate (length line.old - 1) 45) line.new result }
 {
-    match bytes.get(place) {
-        Some(byte) => u16::from(*byte),
-        None => BLANK,
-    }
+    let end = room(line, 0);
+    dash_to(line, end);
+    end
 }
 
-/// The cell in this place of what is shown in a row, or a blank behind the last.
-fn cell_at(cells: &[u16], place: usize) -> u16
-    ensures { result ≡ slice_index_or cells.now place blank }
+/// Sets a row's cells before a column, which counts from 0, to dashes.
+fn dash_to(line: &mut [u16], column: usize)
+    requires { column ≤ length line.old }
+    ensures { line.new ≡ replicate column 45 ++ drop column line.old }
 {
-    match cells.get(place) {
-        Some(cell) => *cell,
-        None => BLANK,
-    }
-}
-
-/// What a row of so many columns shows in a column for a number: nothing in the last.
-fn shown_in(cols: usize, col: usize, cell: u16) -> u16
-    requires { col < cols }
-    ensures { result ≡ if nat_lt (col + 1) cols then shown_cell cell else blank }
-{
-    if col + 1 < cols {
-        shown_cell(cell)
-    } else {
-        BLANK
-    }
-}
-
-/// How a number that is written in a row is shown there: as the cell that it is, or as a blank where it is
-/// none.
-fn shown_cell(cell: u16) -> u16
-    ensures { result ≡ shown_cell cell }
-{
-    if is_screen_cell(cell) { cell } else { BLANK }
-}
-
-/// Whether a number that a row is to show is a cell.
-fn is_screen_cell(cell: u16) -> bool
-    ensures { result ≡ is_screen_cell cell }
-{
-    is_in_range(cell) || is_in_range(cell.saturating_sub(256))
-}
-
-/// Whether a number that a row is to show is a printable byte.
-fn is_in_range(byte: u16) -> bool
-    ensures { result ≡ is_printable byte }
-{
-    32 <= byte && byte <= 126
+    line[..column].fill(DASH);
 }

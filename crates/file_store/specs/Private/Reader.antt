@@ -88,7 +88,8 @@ goes_on (Some own) sort = same_sort own sort
 -- how an item of the sort comes into the reader's list, if it may
 abbrev pub item_entry : Sort → Filling → Option Entry
 item_entry sort filling =
-    if goes_on filling.going sort then Some (record { before = None; next = filling }) else first_entry sort filling.left
+    if goes_on filling.going sort then Some (record { before = None; next = filling })
+    else first_entry sort filling.left
 
 -- how far the reader's list has come behind an item, if no line is wanted before that
 abbrev pub unled : Entry → Option Filling
@@ -205,7 +206,8 @@ ended_in text own (frame ∷ outer) =
 abbrev pub line_taken_at : OpenNodes → ℕ → Saying → Option OpenNodes
 line_taken_at stack level (head kind parts) = option_and_then (begun kind parts) (lowered_to level stack)
 line_taken_at stack level (lead text) = option_and_then (λ s. led_in text s s.outer) (lowered_to (suc level) stack)
-line_taken_at stack level (last text) = option_and_then (λ s. ended_in text s.own s.outer) (lowered_to (suc level) stack)
+line_taken_at stack level (last text) =
+    option_and_then (λ s. ended_in text s.own s.outer) (lowered_to (suc level) stack)
 
 -- what a line does to the open lists, by its level and what it says
 abbrev pub line_taken : OpenNodes → Said → Option OpenNodes

@@ -11,7 +11,7 @@ ghost use Rattle.file_store.specs.Private.Views.{said_of, saying_of};
 
 use crate::line_laws::line_laws;
 use crate::reader::filling::{LAST, LEAD};
-use crate::reader::parts::{behind, read_segments};
+use crate::reader::parts::{behind, may_begin, read_segments};
 use crate::reader::said::{Said, Saying};
 use phrase_parser::NotRead;
 use plcs_grammar::{NodeKind, Template};
@@ -72,7 +72,7 @@ fn read_head(alloc: Global, kinds: &[NodeKind], text: &[u8]) -> Result<Saying, N
     ensures { Finds (λ saying. IsSaying (saying_of saying) × (text_of (saying_of saying) ≡ text.now))
         (OfEach (λ kind. AreNoSegments (row_of kind).line text.now) kinds.now) result }
 {
-    let Some((kind, others)) = kinds.split_first() else {
+    let Some((kind, others)) = kinds_for(kinds, text).split_first() else {
         return Err(NotRead::Refused);
     };
     match read_parts(alloc, *kind, text) {
@@ -80,6 +80,24 @@ fn read_head(alloc: Global, kinds: &[NodeKind], text: &[u8]) -> Result<Saying, N
         Err(NotRead::OutOfMemory) => Err(NotRead::OutOfMemory),
         Err(NotRead::Refused) => read_head(alloc, others, text),
     }
+}
+
+/// These kinds from the first on whose first line a whole line may be, as far as its first byte tells.
+fn kinds_for<'a>(kinds: &'a [NodeKind], text: &[u8]) -> &'a [NodeKind]
+    requires shapes { OfEach (λ kind. shape kind ≡ kind) kinds.now }
+    ensures shapes { OfEach (λ kind. shape kind ≡ kind) result.now }
+    ensures others { OfEach (λ kind. AreNoSegments (row_of kind).line text.now) result.now
+        → OfEach (λ kind. AreNoSegments (row_of kind).line text.now) kinds.now }
+    ensures fewer { length result.now ≤ length kinds.now }
+{
+    let mut left = kinds;
+    while let Some((kind, others)) = left.split_first() {
+        if may_begin(kind.row().line, text) {
+            return left;
+        }
+        left = others;
+    }
+    left
 }
 
 /// Reads a whole line of a listing as the first line of a node of the kind, if it is one: what stands in its

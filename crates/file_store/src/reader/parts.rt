@@ -1,5 +1,5 @@
 //! The parts of a line that is read, each a phrase or a placeholder, and where they end.
-ghost use Rattle.std.specs.Prelude.{◌≡◌, ◌≢◌, ◌&&◌, ◌∷◌, ◌++◌, ℕ, List, [], MatchOption, Option, bytes_eq, length, map, option_map};
+ghost use Rattle.std.specs.Prelude.{◌≡◌, ◌≢◌, ◌&&◌, ◌∷◌, ◌++◌, ℕ, List, [], false, MatchOption, Option, bytes_eq, length, map, option_map};
 ghost use Rattle.std.specs.Bool.{Decides};
 ghost use Rattle.plcs_grammar.specs.Canon.{Canon};
 ghost use Rattle.plcs_grammar.specs.Placeholder.{placeholder};
@@ -69,6 +69,31 @@ fn next_segment(segments: &[Segment]) -> Next
         Segment::Words(words) => Next::Words(*words, later),
         Segment::Part(category) => Next::Part(*category, later),
     }
+}
+
+/// Whether the text of a line may have these segments, as far as its first byte tells.
+#[tactic(auto, using(crate::proofs::PartTexts::other_words))]
+pub(crate) fn may_begin(segments: &[Segment], text: &[u8]) -> bool
+    ensures { result ≡ false → AreNoSegments (map plain_segment segments.now) text.now }
+{
+    match next_segment(segments) {
+        Next::Words(words, _) => begins_alike(text, words),
+        _ => true,
+    }
+}
+
+/// Whether the text of a line begins with the first byte of the words, if they have one.
+#[tactic(auto, using(crate::proofs::PartTexts::other_first, crate::proofs::PartTexts::none_first))]
+fn begins_alike(text: &[u8], words: &[u8]) -> bool
+    ensures { result ≡ false → (rest : List ℕ) → text.now ≢ words.now ++ rest }
+{
+    let Some((first, _)) = words.split_first() else {
+        return true;
+    };
+    let Some((byte, _)) = text.split_first() else {
+        return false;
+    };
+    byte == first
 }
 
 /// The parts that were read of a line, if its text is at its end.

@@ -13,51 +13,53 @@ pub taken-requires-clause-few : goal.taken-requires-clause-few
 taken-requires-clause-few c =
     omega (
       arith,
-      few_lines c.args.bytes.now c.loop-line.rest.now (come_of c.loop-line.reader) c.loop-line.invariant,
+      few_lines c.args.bytes.now c.loop-line.rest.now (come_of c.loop-line.reader) c.loop-line.invariant.0,
       line_left c.loop-line.rest.now c.in-Some.line.now c.in-Some.more.now c.in-Some.ensures.0,
       c.if-bytes-gt-LONGEST_LISTING.false,
     )
 
 pub returns-in_err-reader : goal.returns-in_err-reader
 returns-in_err-reader c =
-    let p = err_from_is_err_and c.from_residual.result c.from_residual.ensures.1 in
+    let p = err_from_is_err_and c.from_residual-in_err-reader.result c.from_residual-in_err-reader.ensures.1 in
     rw (p.1, p.2)
     (line_refused c.line_laws.ensures c.args.bytes.now c.loop-line.rest.now c.in-Some.line.now c.in-Some.more.now (come_of c.loop-line.reader) _
-    c.if-bytes-gt-LONGEST_LISTING.false c.loop-line.invariant c.in-Some.ensures.0 c.in-Some.ensures.1 c.in_err-reader.ensures.refused)
+    c.if-bytes-gt-LONGEST_LISTING.false c.loop-line.invariant.0 c.in-Some.ensures.0 c.in-Some.ensures.1 c.in_err-reader.ensures.refused)
 
 pub loop-line-preserved : goal.loop-line-preserved
-loop-line-preserved c =
-    one_more c.args.bytes.now c.loop-line.rest.now c.in-Some.line.now c.in-Some.more.now (come_of c.loop-line.reader) (come_of c.in_ok-reader.reader)
-    c.loop-line.invariant c.in-Some.ensures.0 c.in_ok-reader.ensures.taken
+loop-line-preserved c = (
+  one_more c.args.bytes.now c.loop-line.rest.now c.in-Some.line.now c.in-Some.more.now (come_of c.loop-line.reader) (come_of c.in_ok-reader.reader)
+      c.loop-line.invariant.0 c.in-Some.ensures.0 c.in_ok-reader.ensures.taken,
+  c.in-Some.ensures.2,
+)
 
 pub overflow_add-number : goal.overflow_add-number
 overflow_add-number c =
-    omega (arith, few_lines c.args.bytes.now c.loop-line.rest.now (come_of c.loop-line.reader) c.loop-line.invariant, c.if-bytes-gt-LONGEST_LISTING.false)
+    omega (arith, few_lines c.args.bytes.now c.loop-line.rest.now (come_of c.loop-line.reader) c.loop-line.invariant.0, c.if-bytes-gt-LONGEST_LISTING.false)
 
 pub returns-then-is_left : goal.returns-then-is_left
 returns-then-is_left c =
     unended c.line_laws.ensures c.args.bytes.now c.loop-line.rest.now (come_of c.loop-line.reader) _ c.if-bytes-gt-LONGEST_LISTING.false
-    c.loop-line.invariant c.in_default.ensures (c.is_left.ensures.left c.if-is_left.true) refl
+    c.loop-line.invariant.0 c.in_default.ensures (c.is_left.ensures.left c.if-is_left.true) refl
 
 pub tree_of-requires-clause-program : goal.tree_of-requires-clause-program
 tree_of-requires-clause-program c =
-    (fits c.args.bytes.now c.loop-line.rest.now (come_of c.loop-line.reader) c.in-Ok.items c.loop-line.invariant c.in-Ok.ensures).program
+    (fits c.args.bytes.now c.loop-line.rest.now (come_of c.loop-line.reader) c.in-Ok.items c.loop-line.invariant.0 c.in-Ok.ensures).program
 
 pub tree_of-requires-clause-shallow : goal.tree_of-requires-clause-shallow
 tree_of-requires-clause-shallow c =
-    (fits c.args.bytes.now c.loop-line.rest.now (come_of c.loop-line.reader) c.in-Ok.items c.loop-line.invariant c.in-Ok.ensures).shallow
+    (fits c.args.bytes.now c.loop-line.rest.now (come_of c.loop-line.reader) c.in-Ok.items c.loop-line.invariant.0 c.in-Ok.ensures).shallow
 
 pub tree_of-requires-clause-few : goal.tree_of-requires-clause-few
 tree_of-requires-clause-few c =
-    (fits c.args.bytes.now c.loop-line.rest.now (come_of c.loop-line.reader) c.in-Ok.items c.loop-line.invariant c.in-Ok.ensures).few
+    (fits c.args.bytes.now c.loop-line.rest.now (come_of c.loop-line.reader) c.in-Ok.items c.loop-line.invariant.0 c.in-Ok.ensures).few
 
 pub returns-in-Ok : goal.returns-in-Ok
 returns-in-Ok c =
     loaded c.args.bytes.now c.loop-line.rest.now (come_of c.loop-line.reader) c.in-Ok.items c.tree_of.result
-    c.loop-line.invariant (c.is_left.ensures.none c.if-is_left.false) c.in-Ok.ensures c.tree_of.ensures.built c.tree_of.ensures.tree
+    c.loop-line.invariant.0 (c.is_left.ensures.none c.if-is_left.false) c.in-Ok.ensures c.tree_of.ensures.built c.tree_of.ensures.tree
 
-pub returns-in-Err : goal.returns-in-Err
-returns-in-Err c =
+pub returns : goal.returns
+returns c =
     subst (RefusalSays c.args.bytes.now) (sym c.refused_in.ensures)
     (unfinished_refused c.line_laws.ensures c.args.bytes.now c.loop-line.rest.now (come_of c.loop-line.reader) c.in-Err.fault
-    c.if-bytes-gt-LONGEST_LISTING.false c.loop-line.invariant (c.is_left.ensures.none c.if-is_left.false) c.in-Err.ensures)
+    c.if-bytes-gt-LONGEST_LISTING.false c.loop-line.invariant.0 (c.is_left.ensures.none c.if-is_left.false) c.in-Err.ensures)

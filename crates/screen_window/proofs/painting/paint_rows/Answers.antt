@@ -1,4 +1,4 @@
-use Rattle.std.proofs.Common.{◌<◌, ◌+◌, [], length, arith, ap}
+use Rattle.std.proofs.Common.{◌<◌, ◌+◌, [], length, arith, ap, sym, ◌∙◌}
 use Rattle.std.proofs.lemmas.Grind.{common_steps}
 use Rattle.std.proofs.lemmas.Result.{err_from_is_err_and}
 use Rattle.std.proofs.lemmas.List.Elements.{All-get_or}
@@ -7,14 +7,25 @@ use Rattle.screen_window.proofs.Owing.{owes_more, owes_failed, owes_row, row_aga
 use Rattle.screen_window.proofs.WritesInTurn.{cause_passed}
 use Rattle.screen_window.proofs.painting.paint_rows.Goals as goal
 
--- the row is as wide as the screen
+-- both rows are as wide as the screen
 pub paint_row-requires : goal.paint_row-requires
 paint_row-requires g c =
+    let olds = c.args.old.now.lines in
     let news = c.args.new.now.lines in
+    let old_grid = c.cells.ensures.grid in
     let grid = c.cells-in-loop-row.ensures.grid in
-    let below : c.loop-row.row < length news = omega (arith, grid.rows, c.requires.rows, c.loop-row-test.true, c.rows-row-end.ensures.value) in
-    let width = (All-get_or (IsRow c.args.new.now.cols) news c.loop-row.row [] below grid.lines).width in
-    omega (arith, ap length (row_again news c.loop-row.row c.cells-in-loop-row.ensures.cells), width, grid.size.most_cols)
+    let in_olds : c.loop-row.row < length olds =
+    omega (arith, old_grid.rows, c.requires.rows, c.loop-row-test.true, c.rows-row-end.ensures.value) in
+    let in_news : c.loop-row.row < length news =
+    omega (arith, grid.rows, c.requires.rows, c.loop-row-test.true, c.rows-row-end.ensures.value) in
+    let old_width = (All-get_or (IsRow c.args.old.now.cols) olds c.loop-row.row [] in_olds old_grid.lines).width in
+    let width = (All-get_or (IsRow c.args.new.now.cols) news c.loop-row.row [] in_news grid.lines).width in
+    let is_old = ap length (row_again olds c.loop-row.row c.cells.ensures.cells) in
+    let is_new = ap length (row_again news c.loop-row.row c.cells-in-loop-row.ensures.cells) in
+    record {
+      width = is_old ∙ old_width ∙ c.requires.cols ∙ sym (is_new ∙ width);
+      short = omega (arith, is_new, width, grid.size.most_cols);
+    }
 
 -- the rows before were taken, and some of this one
 pub returns-in_err-paint_row : goal.returns-in_err-paint_row
