@@ -109,7 +109,7 @@ class Played:
         ran = subprocess.run([PROGRAM, *words], cwd=folder, input=keys, stdout=subprocess.PIPE, stderr=subprocess.PIPE, timeout=SECONDS)
         self.status, self.painted, self.told = ran.returncode, ran.stdout, ran.stderr.decode()
         self.size = tuple(sizes.values())
-        terminal = PlainTerminal(*self.size).take(ran.stdout)
+        self.terminal = terminal = PlainTerminal(*self.size).take(ran.stdout)
         self.rows, self.negatives, self.cursor = terminal.rows(), terminal.negatives(), (terminal.row, terminal.col)
         self.window, self.message, self.prompt = self.rows[:-6], self.rows[-2], self.rows[-1]
 
