@@ -82,7 +82,8 @@ impl History {
     pub fn back(&mut self, state: &mut RunState) -> Result<(), NoHistory>
         requires able { CanGoBack self.old (plain_configuration state.old) }
         ensures none { IsErr result ↔ (self.old ≡ []) }
-        ensures back { OnOk result (GoesBack self.old (plain_configuration state.old) self.new (plain_configuration state.new)) }
+        ensures back { OnOk result (GoesBack self.old (plain_configuration state.old)
+            self.new (plain_configuration state.new)) }
         ensures left { OnOk result (self.new ≡ drop 1 self.old) }
         ensures again { OnOk result (CanGoBack self.new (plain_configuration state.new)) }
         ensures operands { state.new.operands ≡ state.old.operands }

@@ -32,7 +32,8 @@ pub record AreClips (pairs : List Pair) : Type 0 where
 -- fragments under other names it would have too many slots
 abbrev pub is_full : List ℕ → ℕ → List Pair → Bool
 is_full name slots pairs =
-    nat_le most_clips (length (without_name name pairs)) || nat_lt most_clip_slots (slots_held (without_name name pairs) + slots)
+    nat_le most_clips (length (without_name name pairs)) || nat_lt most_clip_slots
+    (slots_held (without_name name pairs) + slots)
 
 -- a fragment comes under the name without memory: the name is held, or there is room for a new one
 abbrev pub has_room : List ℕ → PlainClips → Bool
@@ -41,4 +42,5 @@ has_room name clips = is_some (clip_named name clips.pairs) || nat_lt 0 clips.sp
 -- the fault with which a fragment of so many slots isn't taken; memory runs out only where there is no room
 abbrev pub IsClipFault : ClipFault → List ℕ → ℕ → PlainClips → Type 0
 IsClipFault ClipFault.Full name slots clips = is_full name slots clips.pairs ≡ true
-IsClipFault ClipFault.OutOfMemory name slots clips = (is_full name slots clips.pairs ≡ false) × (has_room name clips ≡ false)
+IsClipFault ClipFault.OutOfMemory name slots clips =
+    (is_full name slots clips.pairs ≡ false) × (has_room name clips ≡ false)

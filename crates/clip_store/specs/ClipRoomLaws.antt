@@ -6,7 +6,8 @@ use Rattle.clip_store.specs.ClipLimit.{is_full}
 
 -- a fragment without room stays the same where its room is taken away again
 abbrev pub FragmentRoomGoesOnce : Type 0
-FragmentRoomGoesOnce = (fragment : PlainFragment) → roomless_fragment (roomless_fragment fragment) ≡ roomless_fragment fragment
+FragmentRoomGoesOnce =
+    (fragment : PlainFragment) → roomless_fragment (roomless_fragment fragment) ≡ roomless_fragment fragment
 
 -- of clips without room the fragment under a name is that fragment without room
 abbrev pub ClipsIgnoreRoom : Type 0
@@ -18,12 +19,14 @@ ClipsIgnoreRoom =
 abbrev pub PutsIgnoreRoom : Type 0
 PutsIgnoreRoom =
     (name : List ℕ) (fragment : PlainFragment) (pairs : List Pair)
-    → with_clip name (roomless_fragment fragment) (roomless_pairs pairs) ≡ roomless_pairs (with_clip name fragment pairs)
+    → with_clip name (roomless_fragment fragment) (roomless_pairs pairs)
+    ≡ roomless_pairs (with_clip name fragment pairs)
 
 -- whether so many slots can come under a name is told of clips without room as of those with it
 abbrev pub FullnessIgnoresRoom : Type 0
 FullnessIgnoresRoom =
-    (name : List ℕ) (slots : ℕ) (pairs : List Pair) → is_full name slots (roomless_pairs pairs) ≡ is_full name slots pairs
+    (name : List ℕ) (slots : ℕ) (pairs : List Pair)
+    → is_full name slots (roomless_pairs pairs) ≡ is_full name slots pairs
 
 -- a fragment without room has as many slots as with it
 abbrev pub FragmentSlotsIgnoreRoom : Type 0
@@ -32,7 +35,8 @@ FragmentSlotsIgnoreRoom = (fragment : PlainFragment) → slots_of (roomless_frag
 -- a fragment without room, with nothing elided, is the whole fragment without room
 abbrev pub WholenessIgnoresRoom : Type 0
 WholenessIgnoresRoom =
-    (fragment : PlainFragment) → whole_fragment (roomless_fragment fragment) ≡ roomless_fragment (whole_fragment fragment)
+    (fragment : PlainFragment)
+    → whole_fragment (roomless_fragment fragment) ≡ roomless_fragment (whole_fragment fragment)
 
 -- a fragment without room gets none where it is made whole, with nothing elided
 abbrev pub WholenessBringsNoRoom : Type 0

@@ -12,7 +12,8 @@ WholenessGoesOnce = (fragment : PlainFragment) → whole_fragment (whole_fragmen
 -- of clips as they are kept the fragment under a name is that fragment as it is kept
 abbrev pub ClipsAreKeptWhole : Type 0
 ClipsAreKeptWhole =
-    (name : List ℕ) (pairs : List Pair) → clip_named name (kept_pairs pairs) ≡ option_map kept_fragment (clip_named name pairs)
+    (name : List ℕ) (pairs : List Pair)
+    → clip_named name (kept_pairs pairs) ≡ option_map kept_fragment (clip_named name pairs)
 
 -- a fragment as it is kept, put among clips as they are kept, gives the clips as they are kept
 abbrev pub PutsAreKeptWhole : Type 0
@@ -22,7 +23,8 @@ PutsAreKeptWhole =
 
 -- whether so many slots can come under a name is told of clips as they are kept as of those that are there
 abbrev pub FullnessIsKept : Type 0
-FullnessIsKept = (name : List ℕ) (slots : ℕ) (pairs : List Pair) → is_full name slots (kept_pairs pairs) ≡ is_full name slots pairs
+FullnessIsKept =
+    (name : List ℕ) (slots : ℕ) (pairs : List Pair) → is_full name slots (kept_pairs pairs) ≡ is_full name slots pairs
 
 -- a fragment as it is kept has as many slots as the one that is there
 abbrev pub FragmentSlotsAreKept : Type 0

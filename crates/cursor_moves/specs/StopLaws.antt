@@ -5,7 +5,8 @@ use Rattle.template_tree.specs.Positions.Stop.{IsStop, PlainStop, Stops}
 
 -- the cursor may stand at a stop exactly where that is one of the listed visible stops
 abbrev pub StopsAreListed : Type 0
-StopsAreListed = (items : Forest) (stop : PlainStop) → IsStop items stop ↔ Contains (map (λ listed. listed.stop) (Stops items)) stop
+StopsAreListed =
+    (items : Forest) (stop : PlainStop) → IsStop items stop ↔ Contains (map (λ listed. listed.stop) (Stops items)) stop
 
 -- no visible stop is listed twice
 abbrev pub StopsAreDistinct : Type 0

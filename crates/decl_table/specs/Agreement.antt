@@ -10,5 +10,6 @@ use Rattle.decl_table.specs.PlainDecls.{PlainDecls, mentions_of, slot_of}
 -- heading, and each name's uses
 pub record IsDeclsOf (decls : PlainDecls) (program : Forest) : Type 0 where
   pub items_are : ScopeTells decls.items program
-  pub headings_are : (name : List ℕ) → slot_of name decls.headings ≡ option_map (λ signature. signature.slot) (Sig program name)
+  pub headings_are : (name : List ℕ)
+      → slot_of name decls.headings ≡ option_map (λ signature. signature.slot) (Sig program name)
   pub uses_are : (name : List ℕ) → AreUses name program (mentions_of name decls.uses)

@@ -14,7 +14,8 @@ PartEndsAtDivider =
 -- the law that two texts, each of a part, the divider and a rest, are equal only where their parts and their rests are
 abbrev pub DividedPartsTell : Type 0
 DividedPartsTell =
-    (category : Category) (divider x y z w : List ℕ) → Divides category divider → IsPartOfLine category x → IsPartOfLine category z
+    (category : Category) (divider x y z w : List ℕ) → Divides category divider → IsPartOfLine category x
+    → IsPartOfLine category z
     → x ++ (divider ++ y) ≡ z ++ (divider ++ w) → (x ≡ z) × (y ≡ w)
 
 -- the law that a text that is cut is what stands before the divider, the divider, and what stands behind it

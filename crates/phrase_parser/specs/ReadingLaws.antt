@@ -14,18 +14,21 @@ OneReading = (category : Category) (x : List ℕ) (p q : PlainPhrase) → Reads 
 
 -- the law that, for every phrase that some text reads as, its canonical text reads as that same phrase
 abbrev pub CanonicalTextReads : Type 0
-CanonicalTextReads = (category : Category) (x : List ℕ) (phrase : PlainPhrase) → Reads category x phrase → Reads category (Canon phrase) phrase
+CanonicalTextReads = (category : Category) (x : List ℕ) (phrase : PlainPhrase) → Reads category x phrase
+    → Reads category (Canon phrase) phrase
 
 -- the law that a canonical text tells its phrase: two phrases of one category that some texts read as are equal where
 -- theirs is one
 abbrev pub CanonicalTextTells : Type 0
 CanonicalTextTells =
-    (category : Category) (x y : List ℕ) (p q : PlainPhrase) → Reads category x p → Reads category y q → Canon p ≡ Canon q → p ≡ q
+    (category : Category) (x y : List ℕ) (p q : PlainPhrase) → Reads category x p → Reads category y q
+    → Canon p ≡ Canon q → p ≡ q
 
 -- the law that what a text has as its reading in a category is of that category
 abbrev pub ReadingHasCategory : Type 0
 ReadingHasCategory =
-    (category : Category) (x : List ℕ) (phrase : PlainPhrase) → HasReading category x phrase → category_of phrase ≡ category
+    (category : Category) (x : List ℕ) (phrase : PlainPhrase) → HasReading category x phrase
+    → category_of phrase ≡ category
 
 -- the law that every text, however long, has exactly one standing in a category
 abbrev pub OneStanding : Type 0

@@ -6,7 +6,8 @@ use Rattle.std.proofs.lemmas.Option.{get_or_from_slice_get, none-some, slice_get
 use Rattle.std.specs.Prelude.{◌≡◌, ℕ, suc, ◌+◌, ◌≤◌, List, [], ◌∷◌, length, drop, slice_get, Some, None}
 
 -- what is left of a list begins with the item that is found
-pub left_from : {X : Type 0} (items : List X) (k : ℕ) (x : X) → slice_get items k ≡ Some x → drop k items ≡ x ∷ drop (k + 1) items
+pub left_from : {X : Type 0} (items : List X) (k : ℕ) (x : X) → slice_get items k ≡ Some x
+    → drop k items ≡ x ∷ drop (k + 1) items
 left_from items k x there =
     drop-cons items k x (slice_get_within items k x there)
     ∙ ap (λ first. first ∷ drop (suc k) items) (get_or_from_slice_get items k x x there)

@@ -14,7 +14,8 @@ use Rattle.plcs_base.specs.declared.place.PhraseAt.{PhraseAt}
 
 -- places of phrases are in one order
 pub places_total : IsTotalOrder phrase_cmp
-places_total = then_total (on_total (λ (at : PhraseAt). at.slot.0) nat_cmp_total) (on_total (λ (at : PhraseAt). at.part) nat_cmp_total)
+places_total = then_total (on_total (λ (at : PhraseAt). at.slot.0) nat_cmp_total)
+    (on_total (λ (at : PhraseAt). at.part) nat_cmp_total)
 
 -- to be equal in the order of places is an equivalence
 pub places_equiv : IsEquivalence (eq_by_cmp phrase_cmp)
@@ -28,7 +29,8 @@ never e = absurd (true≢false (sym e))
 pub same_place : (x y : PhraseAt) → eq_by_cmp phrase_cmp x y ≡ true → x ≡ y
 same_place x y same = by (nat_cmp x.slot.0 y.slot.0) (nat_cmp x.part y.part) refl refl same
   where
-    by : (a b : Ordering) → nat_cmp x.slot.0 y.slot.0 ≡ a → nat_cmp x.part y.part ≡ b → is_eq (ordering_then a b) ≡ true → x ≡ y
+    by : (a b : Ordering) → nat_cmp x.slot.0 y.slot.0 ≡ a → nat_cmp x.part y.part ≡ b
+        → is_eq (ordering_then a b) ≡ true → x ≡ y
     by Equal Equal e f same =
         λ i. record { slot = record { 0 = nat_cmp-IsAntisymmetric x.slot.0 y.slot.0 e i }; part = nat_cmp-IsAntisymmetric x.part y.part f i }
     by Less b e f same = never same
@@ -40,7 +42,8 @@ same_place x y same = by (nat_cmp x.slot.0 y.slot.0) (nat_cmp x.part y.part) ref
 pub nat_ties : (m n : ℕ) → nat_eq m n ≡ is_eq (nat_cmp m n)
 nat_ties m n = by (nat_eq m n) (nat_lt m n) refl refl
   where
-    by : (same less : Bool) → nat_eq m n ≡ same → nat_lt m n ≡ less → same ≡ is_eq (cond less Less (cond same Equal Greater))
+    by : (same less : Bool) → nat_eq m n ≡ same → nat_lt m n ≡ less
+        → same ≡ is_eq (cond less Less (cond same Equal Greater))
     by true true e f = never (sym (le-ltb m n (le_of_eq (sym (eqb-true m n e)))) ∙ f)
     by true false e f = refl
     by false true e f = refl

@@ -18,7 +18,8 @@ use Rattle.plcs_code.specs.PlainInstr.{PlainInstr, place_of}
 
 -- the law that the lengths of codes are told without them: jumps don't change how long a code is
 abbrev pub LengthsAreTold : Type 0
-LengthsAreTold = (marks : MarkMap) (items : ItemMap) (nodes : Forest) → map length (node_codes marks items nodes) ≡ node_lengths marks items nodes
+LengthsAreTold = (marks : MarkMap) (items : ItemMap) (nodes : Forest)
+    → map length (node_codes marks items nodes) ≡ node_lengths marks items nodes
 
 -- the law that the own code of a node is as long, whatever the lengths of the codes inside it
 abbrev pub OwnLengthsStay : Type 0
@@ -41,7 +42,8 @@ own_lengths marks items (Forest.cons label inner rest) =
 -- the law that the code of a program is as long as the own codes of all its nodes together
 abbrev pub OwnCodesAddUp : Type 0
 OwnCodesAddUp =
-    (marks : MarkMap) (items : ItemMap) (program : Forest) → length (Gen marks items program).instrs ≡ own_lengths marks items program
+    (marks : MarkMap) (items : ItemMap) (program : Forest)
+    → length (Gen marks items program).instrs ≡ own_lengths marks items program
 
 -- ---- jumps
 
@@ -125,7 +127,8 @@ is_marked_first marks slot = is_some (get marks (phrase_at slot 0))
 -- address for it
 abbrev pub PlacesHaveAddresses : Type 0
 PlacesHaveAddresses =
-    (marks : MarkMap) (items : ItemMap) (program : Forest) (place : PlainPlace) → IsProgram program → times place.slot program ≤ 1
+    (marks : MarkMap) (items : ItemMap) (program : Forest) (place : PlainPlace) → IsProgram program
+    → times place.slot program ≤ 1
     → Exists (is_marked_first marks) program place ↔ IsSome (get (Gen marks items program).addresses (place_of place))
 
 -- ---- what stands at addresses
@@ -139,7 +142,8 @@ ends_step kind point = not (passes_in kind) && not (is_call kind && (point == 1)
 abbrev pub AddressesHoldSteps : Type 0
 AddressesHoldSteps =
     (marks : MarkMap) (items : ItemMap) (program : Forest) (place : PlainPlace) (found : Site) (address : ℕ)
-    → times place.slot program ≤ 1 → site program place.slot ≡ Some found → ends_step found.label.kind place.point ≡ true
+    → times place.slot program ≤ 1 → site program place.slot ≡ Some found
+    → ends_step found.label.kind place.point ≡ true
     → get (Gen marks items program).addresses (place_of place) ≡ Some address
     → slice_get (Gen marks items program).instrs address ≡ Some (PlainInstr.place place)
 
@@ -173,6 +177,7 @@ EntriesAreHeadings =
 -- the law that the procedure of an entry, whose slot stands but once, begins at the address of the entry
 abbrev pub EntriesBeginProcedures : Type 0
 EntriesBeginProcedures =
-    (marks : MarkMap) (items : ItemMap) (program : Forest) (name : List ℕ) (entry : HeadingEntry) → times entry.slot.0 program ≤ 1
+    (marks : MarkMap) (items : ItemMap) (program : Forest) (name : List ℕ) (entry : HeadingEntry)
+    → times entry.slot.0 program ≤ 1
     → get (Gen marks items program).headings name ≡ Some entry
     → (count : ℕ) × (get (Gen marks items program).spans entry.slot.0 ≡ Some (entry.address, count))

@@ -167,7 +167,8 @@ EntryMap = FinMap name_cmp HeadingEntry
 abbrev pub heading_by_name : (slot address : ℕ) → Option Heading → List (List ℕ × HeadingEntry)
 heading_by_name slot address None = []
 heading_by_name slot address (Some heading) =
-    if may_be_called heading.name then (heading.name, record { address = address; slot = record { 0 = slot } }) ∷ [] else []
+    if may_be_called heading.name then (heading.name, record { address = address; slot = record { 0 = slot } }) ∷ []
+    else []
 
 -- the headings of main and procedures in order, by their names, the first at an address
 abbrev pub headings_by_name : MarkMap → ItemMap → (start : ℕ) → Forest → List (List ℕ × HeadingEntry)

@@ -23,7 +23,8 @@ use Rattle.plcs_code.specs.PlainInstr.{PlainInstr, place_of}
 abbrev pub LandsBy : List PlainInstr → PlainPlace → (jumps address : ℕ) → Type 0
 LandsBy instrs place zero address = slice_get instrs address ≡ Some (PlainInstr.place place)
 LandsBy instrs place (suc jumps) address =
-    (d : ℤ) × (target : ℕ) × (slice_get instrs address ≡ Some (PlainInstr.jump d)) × (pos target ≡ pos (address + 1) +ℤ d)
+    (d : ℤ) × (target : ℕ) × (slice_get instrs address ≡ Some (PlainInstr.jump d))
+    × (pos target ≡ pos (address + 1) +ℤ d)
     × LandsBy instrs place jumps target
 
 -- a run that comes to the address comes to the step that ends at the place by jumps alone, which are fewer than the instructions
@@ -48,12 +49,14 @@ StatementsGoOn =
 -- stands inside it
 abbrev pub length_before : MarkMap → ItemMap → Label → (inner : Forest) → ℕ
 length_before marks items label inner =
-    length (pieces marks items label).before + length (option_to_list (jumps marks items label (node_lengths marks items inner)).ahead)
+    length (pieces marks items label).before
+    + length (option_to_list (jumps marks items label (node_lengths marks items inner)).ahead)
 
 -- in code the body of a node, a statement in it, begins at once with the place at which a run begins that comes to it
 abbrev pub BodiesBegin : Type 0
 BodiesBegin =
-    (marks : MarkMap) (items : ItemMap) (program : Forest) (slot : ℕ) (found : Site) (behind : PlainPlace) → IsProgram program
+    (marks : MarkMap) (items : ItemMap) (program : Forest) (slot : ℕ) (found : Site) (behind : PlainPlace)
+    → IsProgram program
     → site program slot ≡ Some found → list_any is_statement (sorts found.inner) ≡ true
     → (start count : ℕ) × (get (Gen marks items program).spans slot ≡ Some (start, count))
     × (slice_get (Gen marks items program).instrs (start + length_before marks items found.label found.inner)
@@ -62,7 +65,8 @@ BodiesBegin =
 -- in code the second of the two bodies of an IF begins at once with the place at which a run begins that comes to it
 abbrev pub SecondBodiesBegin : Type 0
 SecondBodiesBegin =
-    (marks : MarkMap) (items : ItemMap) (program : Forest) (slot : ℕ) (found : Site) (first : Label) (within rest : Forest) (behind : PlainPlace)
+    (marks : MarkMap) (items : ItemMap) (program : Forest) (slot : ℕ) (found : Site) (first : Label)
+    (within rest : Forest) (behind : PlainPlace)
     → IsProgram program → site program slot ≡ Some found → found.label.kind ≡ NodeKind.Filled Template.IfElse
     → found.inner ≡ Forest.cons first within rest
     → (start count : ℕ) × (get (Gen marks items program).spans slot ≡ Some (start, count))

@@ -29,7 +29,8 @@ has_empty (place ∷ parts) = not (is_some place) || has_empty parts
 -- number
 abbrev pub has_marked_part : MarkMap → (slot part : ℕ) → List (Option PlainPhrase) → Bool
 has_marked_part marks slot part [] = false
-has_marked_part marks slot part (place ∷ parts) = is_some (get marks (phrase_at slot part)) || has_marked_part marks slot (part + 1) parts
+has_marked_part marks slot part (place ∷ parts) =
+    is_some (get marks (phrase_at slot part)) || has_marked_part marks slot (part + 1) parts
 
 -- what stops a run that needs the first parts of the node in the slot: one that is empty, or else one that is marked
 abbrev pub suspension : MarkMap → (slot : ℕ) → List (Option PlainPhrase) → Option PlainInstr
@@ -64,7 +65,8 @@ first_piece slot stop parts = piece_at slot 0 stop (part_instrs (part_at parts 0
 -- the piece before a loop that counts: its first value, its limit and its step
 abbrev pub enter_piece : (slot : ℕ) → Option PlainInstr → List (Option PlainPhrase) → List PlainInstr
 enter_piece slot stop parts =
-    piece_at slot 0 stop (part_instrs (part_at parts 1) ++ (part_instrs (part_at parts 2) ++ part_instrs (part_at parts 3)))
+    piece_at slot 0 stop
+    (part_instrs (part_at parts 1) ++ (part_instrs (part_at parts 2) ++ part_instrs (part_at parts 3)))
 
 -- the piece of a GET
 abbrev pub get_piece : (slot : ℕ) → Option PlainInstr → Option PlainPhrase → List PlainInstr
@@ -108,7 +110,8 @@ procedure_pieces slot items parameters =
 -- ---- the table of pieces
 
 -- the pieces of a node of the template in a slot, with what stops a run that needs all its parts, or the first one
-abbrev pub template_pieces : (slot : ℕ) (all one : Option PlainInstr) (parts : List (Option PlainPhrase)) → List Declared → Template → CodePieces
+abbrev pub template_pieces : (slot : ℕ) (all one : Option PlainInstr) (parts : List (Option PlainPhrase))
+    → List Declared → Template → CodePieces
 template_pieces slot all one parts items Template.Fixed = one_piece []
 template_pieces slot all one parts items Template.Bit = one_piece []
 template_pieces slot all one parts items Template.Char = one_piece []
@@ -131,7 +134,8 @@ template_pieces slot all one parts items Template.ProcP =
     procedure_pieces slot items (unwrap_or (parameters_given parts) [])
 
 -- the pieces of a node of the kind, as those of a template are told
-abbrev pub kind_pieces : (slot : ℕ) (all one : Option PlainInstr) (parts : List (Option PlainPhrase)) → List Declared → NodeKind → CodePieces
+abbrev pub kind_pieces : (slot : ℕ) (all one : Option PlainInstr) (parts : List (Option PlainPhrase)) → List Declared
+    → NodeKind → CodePieces
 kind_pieces slot all one parts items NodeKind.DeclarationHole = one_piece []
 kind_pieces slot all one parts items NodeKind.StatementHole =
     one_piece (piece_at slot 0 None (PlainInstr.suspend_placeholder ∷ []))
@@ -187,7 +191,8 @@ back_jump back = Some (PlainInstr.jump (neg_ℤ (pos back)))
 -- the jumps of a node of the template in a slot, which counts with the variable, if it is there; where the piece that needs
 -- all its parts is stopped or not, and the one that needs the first; where so many instructions stand before what is
 -- inside, of which the first node has code of one length, and the others together of another
-abbrev pub template_jumps : (slot : ℕ) (counter : Option (List ℕ)) (all one : Bool) (before first others : ℕ) → Template → CodeJumps
+abbrev pub template_jumps : (slot : ℕ) (counter : Option (List ℕ)) (all one : Bool) (before first others : ℕ)
+    → Template → CodeJumps
 template_jumps slot counter all one before first others Template.Fixed = no_jumps
 template_jumps slot counter all one before first others Template.Bit = no_jumps
 template_jumps slot counter all one before first others Template.Char = no_jumps
@@ -219,7 +224,8 @@ template_jumps slot counter all one before first others Template.Proc = no_jumps
 template_jumps slot counter all one before first others Template.ProcP = no_jumps
 
 -- the jumps that the table of code has for each kind of node, told as those of a template are
-abbrev pub kind_jumps : (slot : ℕ) (counter : Option (List ℕ)) (all one : Bool) (before first others : ℕ) → NodeKind → CodeJumps
+abbrev pub kind_jumps : (slot : ℕ) (counter : Option (List ℕ)) (all one : Bool) (before first others : ℕ) → NodeKind
+    → CodeJumps
 kind_jumps slot counter all one before first others NodeKind.DeclarationHole = no_jumps
 kind_jumps slot counter all one before first others NodeKind.StatementHole = no_jumps
 kind_jumps slot counter all one before first others NodeKind.ProcedureHole = no_jumps

@@ -26,12 +26,14 @@ program_code program = Gen (Marks program) (program_items program) program
 -- the law of the items that code asks for: those that the map has of slots, and nothing else of it
 abbrev pub CodeAsksItems : Type 0
 CodeAsksItems =
-    (marks : MarkMap) (items others : ItemMap) (program : Forest) → ((slot : ℕ) → items_in items slot ≡ items_in others slot)
+    (marks : MarkMap) (items others : ItemMap) (program : Forest)
+    → ((slot : ℕ) → items_in items slot ≡ items_in others slot)
     → Gen marks items program ≡ Gen marks others program
 
 -- a program and it without room have the same code by the same marks and items
 abbrev pub CodeIgnoresRoom : Type 0
-CodeIgnoresRoom = (marks : MarkMap) (items : ItemMap) (program : Forest) → Gen marks items (roomless program) ≡ Gen marks items program
+CodeIgnoresRoom = (marks : MarkMap) (items : ItemMap) (program : Forest)
+    → Gen marks items (roomless program) ≡ Gen marks items program
 
 -- a program and it with the comment at a path turned have the same code by the same marks and items
 abbrev pub CodeIgnoresElision : Type 0
@@ -55,4 +57,5 @@ ProgramCodeIgnoresRoom = (program : Forest) → program_code (roomless program) 
 
 -- the code of a program is that of it with the comment at a path turned
 abbrev pub ProgramCodeIgnoresElision : Type 0
-ProgramCodeIgnoresElision = (program : Forest) (path : List ℕ) → program_code (edit_at toggled path program) ≡ program_code program
+ProgramCodeIgnoresElision =
+    (program : Forest) (path : List ℕ) → program_code (edit_at toggled path program) ≡ program_code program

@@ -55,7 +55,8 @@ abbrev mutual
       (level ≤ priority op) × (left right : List Token) × (tokens ≡ left ++ (Token.sign (infix_sign op) ∷ right))
       × Level a (priority op) left × Level b (priority op + 1) right
   Level (PlainExpr.builtin function arguments) level tokens =
-      (inner : List Token) × (tokens ≡ Token.name (builtin_name function) ∷ in_parentheses inner) × IsExprList arguments inner
+      (inner : List Token) × (tokens ≡ Token.name (builtin_name function) ∷ in_parentheses inner)
+      × IsExprList arguments inner
   Level (PlainExpr.parenthesized a) level tokens =
       (inner : List Token) × (tokens ≡ in_parentheses inner) × Level a 1 inner
 
@@ -75,4 +76,5 @@ abbrev mutual
   pub IsMoreExprs : PlainExprs → List Token → Type 0
   IsMoreExprs PlainExprs.nil tokens = tokens ≡ []
   IsMoreExprs (PlainExprs.cons a rest) tokens =
-      (left right : List Token) × (tokens ≡ Token.sign Sign.Comma ∷ (left ++ right)) × Level a 1 left × IsMoreExprs rest right
+      (left right : List Token) × (tokens ≡ Token.sign Sign.Comma ∷ (left ++ right)) × Level a 1 left
+      × IsMoreExprs rest right

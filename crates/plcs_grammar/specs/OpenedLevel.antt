@@ -30,17 +30,20 @@ abbrev mutual
   -- for each token of expressions that stand each behind a comma, the level that it opens, or 0
   pub opened_levels_behind : PlainExprs → ℕ → List ℕ
   opened_levels_behind PlainExprs.nil outside = []
-  opened_levels_behind (PlainExprs.cons a rest) outside = 0 ∷ (opened_levels a outside ++ opened_levels_behind rest outside)
+  opened_levels_behind (PlainExprs.cons a rest) outside =
+      0 ∷ (opened_levels a outside ++ opened_levels_behind rest outside)
 
 -- for each token of variables that stand each behind a comma, the level that it opens, or 0
 abbrev pub opened_levels_of_more_references : List PlainVarRef → List ℕ
 opened_levels_of_more_references [] = []
-opened_levels_of_more_references (reference ∷ rest) = 0 ∷ (reference_opened_levels reference 0 ++ opened_levels_of_more_references rest)
+opened_levels_of_more_references (reference ∷ rest) =
+    0 ∷ (reference_opened_levels reference 0 ++ opened_levels_of_more_references rest)
 
 -- for each token of one variable or more, joined by commas, the level that it opens, or 0
 abbrev pub opened_levels_of_references : List PlainVarRef → List ℕ
 opened_levels_of_references [] = []
-opened_levels_of_references (reference ∷ rest) = reference_opened_levels reference 0 ++ opened_levels_of_more_references rest
+opened_levels_of_references (reference ∷ rest) =
+    reference_opened_levels reference 0 ++ opened_levels_of_more_references rest
 
 -- for each token of a call, whose arguments stand one level in, the level that it opens, or 0
 abbrev pub opened_levels_of_call : PlainExprs → List ℕ
@@ -49,7 +52,8 @@ opened_levels_of_call (PlainExprs.cons a rest) = 0 ∷ 1 ∷ (opened_levels_of_a
 
 -- for each token of a phrase, the level that it opens, or 0; tokens that the list doesn't come to open no level
 abbrev pub phrase_opened_levels : PlainPhrase → List ℕ
-phrase_opened_levels (PlainPhrase.assignment target value) = reference_opened_levels target 0 ++ (0 ∷ opened_levels value 0)
+phrase_opened_levels (PlainPhrase.assignment target value) =
+    reference_opened_levels target 0 ++ (0 ∷ opened_levels value 0)
 phrase_opened_levels (PlainPhrase.condition e) = opened_levels e 0
 phrase_opened_levels (PlainPhrase.expression e) = opened_levels e 0
 phrase_opened_levels (PlainPhrase.expression_list es) = opened_levels_of_all es 0

@@ -28,7 +28,8 @@ IsCall name (PlainExprs.cons a rest) tokens =
 -- the tokens are the phrase, of whatever category it is
 abbrev pub IsPhrase : PlainPhrase → List Token → Type 0
 IsPhrase (PlainPhrase.assignment target value) tokens =
-    (left right : List Token) × (tokens ≡ left ++ (Token.sign Sign.Equal ∷ right)) × IsReference target left × Level value 1 right
+    (left right : List Token) × (tokens ≡ left ++ (Token.sign Sign.Equal ∷ right)) × IsReference target left
+    × Level value 1 right
 IsPhrase (PlainPhrase.condition e) tokens = Level e 1 tokens
 IsPhrase (PlainPhrase.expression e) tokens = Level e 1 tokens
 IsPhrase (PlainPhrase.expression_list es) tokens = IsExprList es tokens

@@ -57,7 +57,8 @@ expr_infix e op a b is =
     ∙ fold-roll-Expr PlainExpr PlainVarRef plain_expr_level plain_var_ref_level _
 
 -- the plain form of an expression in parentheses
-pub expr_paren : (e : Expr) (a : Box Expr Global) → e ≡ Paren a → plain_expr e ≡ PlainExpr.parenthesized (plain_expr a.value)
+pub expr_paren : (e : Expr) (a : Box Expr Global) → e ≡ Paren a
+    → plain_expr e ≡ PlainExpr.parenthesized (plain_expr a.value)
 expr_paren e a is =
     ap plain_expr is ∙ ap plain_expr (sym (rolls-Paren a))
     ∙ fold-roll-Expr PlainExpr PlainVarRef plain_expr_level plain_var_ref_level _

@@ -18,4 +18,5 @@ pub record IsShownText (category : Category) (x : List ℕ) : Type 0 where
 
 -- the law that the canonical text of each well-formed phrase can be shown
 abbrev pub CanonicalTextsShow : Type 0
-CanonicalTextsShow = (category : Category) (phrase : PlainPhrase) → IsWellFormed category phrase → IsShownText category (Canon phrase)
+CanonicalTextsShow =
+    (category : Category) (phrase : PlainPhrase) → IsWellFormed category phrase → IsShownText category (Canon phrase)

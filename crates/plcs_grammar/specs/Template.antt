@@ -55,7 +55,8 @@ closing = Some (codes "END;")
 
 -- the row of the table of templates for a hole: its word alone
 abbrev pub hole_row : Sort → List ℕ → PlainRow
-hole_row sort word = record { sort = sort; command = None; line = PlainSegment.words word ∷ []; sections = []; last = None }
+hole_row sort word =
+    record { sort = sort; command = None; line = PlainSegment.words word ∷ []; sections = []; last = None }
 
 -- the row of the table of templates for a procedure
 abbrev pub procedure_row : List ℕ → List PlainSegment → PlainRow
@@ -69,7 +70,8 @@ declaration_row command line =
 
 -- the row of the table of templates for a statement with nothing inside
 abbrev pub simple_row : List ℕ → List PlainSegment → PlainRow
-simple_row command line = record { sort = Sort.Statement; command = Some command; line = line; sections = []; last = None }
+simple_row command line =
+    record { sort = Sort.Statement; command = Some command; line = line; sections = []; last = None }
 
 -- the row of the table of templates for a statement that a body or two follow
 abbrev pub choice_row : List ℕ → List PlainSegment → List PlainSection → PlainRow

@@ -69,7 +69,8 @@ abbrev pub IsToken : Token → List ℕ → List ℕ → Type 0
 IsToken (name n) bytes behind = (bytes ≡ n) × IsName n × EndsWord behind
 IsToken (keyword word) bytes behind = (bytes ≡ word) × IsTrue (is_keyword word) × EndsWord behind
 IsToken (number n) bytes behind = IsNumeral bytes × (numeral_value bytes ≡ n)
-IsToken (text value) bytes behind = (bytes ≡ quoted value) × IsConstantText value × IsTrue (not (begins_with is_quote behind))
+IsToken (text value) bytes behind =
+    (bytes ≡ quoted value) × IsConstantText value × IsTrue (not (begins_with is_quote behind))
 IsToken (bit value) bytes behind = (bytes ≡ bit_bytes value) × EndsWord behind
 IsToken (sign s) bytes behind = bytes ≡ sign_bytes s
 
@@ -77,7 +78,8 @@ IsToken (sign s) bytes behind = bytes ≡ sign_bytes s
 pub record LongestToken (x : List ℕ) (token : Token) (bytes behind : List ℕ) : Type 0 where
   pub whole : x ≡ bytes ++ behind
   pub is_token : IsToken token bytes behind
-  pub longest : (other : Token) (front back : List ℕ) → x ≡ front ++ back → IsToken other front back → length front ≤ length bytes
+  pub longest : (other : Token) (front back : List ℕ) → x ≡ front ++ back → IsToken other front back
+      → length front ≤ length bytes
 
 -- no token can be made at the front of x
 abbrev pub NoToken : List ℕ → Type 0

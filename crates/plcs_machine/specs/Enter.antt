@@ -13,7 +13,8 @@ abbrev pub begun_passing : Variables → (go : Variables → Option (Fetched Lan
 begun_passing variables go (Passing.lands place) = Some (at_once (landing place variables))
 begun_passing variables go (Passing.jumps d) = None
 begun_passing variables go (Passing.takes name ty) = None
-begun_passing variables go (Passing.makes name ty size) = option_map behind_one (option_and_then go (with_unset name ty size variables))
+begun_passing variables go (Passing.makes name ty size) =
+    option_map behind_one (option_and_then go (with_unset name ty size variables))
 
 -- where instructions lead, one after the other, once main has these variables
 abbrev pub begun_in : List PlainInstr → Variables → Option (Fetched Landing)

@@ -31,24 +31,28 @@ abbrev pub making_for : List Argument → Making
 making_for arguments = record { variables = []; arguments = arguments }
 
 -- the answer of a step behind an instruction that leads there, where it is told how the run goes on and where it ends
-abbrev pub lead_answer : PlainConfiguration → (go : ℕ → List Value → List Argument → Option FetchedAnswer) → (settled : ℕ → Option Making → Option (Fetched Landing)) → Lead → Option FetchedAnswer
+abbrev pub lead_answer : PlainConfiguration → (go : ℕ → List Value → List Argument → Option FetchedAnswer)
+    → (settled : ℕ → Option Making → Option (Fetched Landing)) → Lead → Option FetchedAnswer
 lead_answer c go settled (Lead.goes_on address values arguments) = option_map behind_one (go address values arguments)
 lead_answer c go settled (Lead.acts act address) =
     option_map (λ landed. behind_one (with_result (acted c act) landed)) (settled address None)
 lead_answer c go settled (Lead.enters slot address arguments) =
-    option_map (λ landed. behind_one (with_result (called c slot) landed)) (settled address (Some (making_for arguments)))
+    option_map (λ landed. behind_one (with_result (called c slot) landed))
+    (settled address (Some (making_for arguments)))
 lead_answer c go settled (Lead.arrives place) = Some (at_once (PlainStepAnswer.stepped (done Act.pass place c)))
 lead_answer c go settled Lead.ends = Some (at_once PlainStepAnswer.ended)
 
 -- the answer of a step by code, whose instruction comes to this
-abbrev pub outcome_answer : PlainConfiguration → (go : ℕ → List Value → List Argument → Option FetchedAnswer) → (settled : ℕ → Option Making → Option (Fetched Landing)) → Outcome Lead → Option FetchedAnswer
+abbrev pub outcome_answer : PlainConfiguration → (go : ℕ → List Value → List Argument → Option FetchedAnswer)
+    → (settled : ℕ → Option Making → Option (Fetched Landing)) → Outcome Lead → Option FetchedAnswer
 outcome_answer c go settled (Outcome.gives leads) = lead_answer c go settled leads
 outcome_answer c go settled (Outcome.stops reason) = Some (at_once (PlainStepAnswer.stopped reason))
 outcome_answer c go settled Outcome.undefined = None
 
 -- the answer of a step that has come to an address, within so many fetches, with these operands, the newest first, and these
 -- arguments
-abbrev pub run_from : PlainCode → (rest : List ℕ) → PlainConfiguration → (fetches address : ℕ) → List Value → List Argument → Option FetchedAnswer
+abbrev pub run_from : PlainCode → (rest : List ℕ) → PlainConfiguration → (fetches address : ℕ) → List Value
+    → List Argument → Option FetchedAnswer
 run_from code rest c zero address values arguments = None
 run_from code rest c (suc fetches) address values arguments =
     outcome_answer c (run_from code rest c fetches) (settle c.frames code.instrs fetches)

@@ -80,7 +80,8 @@ on_newest_number make values = on_newest (λ value rest. on_number (λ z. make z
 
 -- what is made of so many newest operands, in the order in which they were pushed, and the others
 abbrev pub on_some : {A : Type 0} → ℕ → (List Value → List Value → Outcome A) → List Value → Outcome A
-on_some n make values = if nat_le n (length values) then make (reverse (take n values)) (drop n values) else Outcome.undefined
+on_some n make values =
+    if nat_le n (length values) then make (reverse (take n values)) (drop n values) else Outcome.undefined
 
 -- so many newest arguments, in the order in which they were added
 abbrev pub newest_arguments : ℕ → List Argument → List Argument
@@ -93,7 +94,8 @@ has_operand_room values arguments = nat_lt (length values + length arguments) mo
 -- a value is pushed on the operands
 abbrev pub push_lead : (next : ℕ) → List Value → List Argument → Value → Outcome Lead
 push_lead next values arguments value =
-    if has_operand_room values arguments then Outcome.gives (Lead.goes_on next (value ∷ values) arguments) else Outcome.undefined
+    if has_operand_room values arguments then Outcome.gives (Lead.goes_on next (value ∷ values) arguments)
+    else Outcome.undefined
 
 -- an argument is added behind the others
 abbrev pub add_lead : (next : ℕ) → List Value → List Argument → Argument → Outcome Lead
@@ -104,7 +106,8 @@ add_lead next values arguments argument =
 -- ---- variables
 
 -- the value of a variable is pushed
-abbrev pub load_lead : List Frame → (next : ℕ) → List Argument → (name : List ℕ) → (subscript : Option ℤ) → List Value → Outcome Lead
+abbrev pub load_lead : List Frame → (next : ℕ) → List Argument → (name : List ℕ) → (subscript : Option ℤ) → List Value
+    → Outcome Lead
 load_lead frames next arguments name subscript values =
     then_gives (reached frames name subscript) (λ location.
     then_gives (value_at frames location) (push_lead next values arguments))
@@ -116,14 +119,17 @@ store_lead frames next name subscript value =
     (then_gives (reached frames name subscript) (λ location. storing frames location value (Act.store location)))
 
 -- an item of the input is read into a variable
-abbrev pub get_lead : List Frame → (rest : List ℕ) → (next : ℕ) → (name : List ℕ) → (subscript : Option ℤ) → Outcome Lead
+abbrev pub get_lead : List Frame → (rest : List ℕ) → (next : ℕ) → (name : List ℕ) → (subscript : Option ℤ)
+    → Outcome Lead
 get_lead frames rest next name subscript =
     then_acts next (then_gives (reached frames name subscript) (item_act frames rest))
 
 -- a variable is added as an argument
-abbrev pub reference_lead : List Frame → (next : ℕ) → List Argument → (name : List ℕ) → (subscript : Option ℤ) → List Value → Outcome Lead
+abbrev pub reference_lead : List Frame → (next : ℕ) → List Argument → (name : List ℕ) → (subscript : Option ℤ)
+    → List Value → Outcome Lead
 reference_lead frames next arguments name subscript values =
-    then_gives (reached frames name subscript) (λ location. add_lead next values arguments (Argument.Reference location))
+    then_gives (reached frames name subscript)
+    (λ location. add_lead next values arguments (Argument.Reference location))
 
 -- ---- operators and output
 
@@ -141,7 +147,8 @@ put_lead next output skip n values =
 
 -- whether an instruction may have the newest frame keep one more loop
 abbrev pub has_loop_room : List Frame → Bool
-has_loop_room frames = option_map_or (λ frame. nat_lt (length frame.loops) most_loops) (slice_get frames (newest frames)) false
+has_loop_room frames =
+    option_map_or (λ frame. nat_lt (length frame.loops) most_loops) (slice_get frames (newest frames)) false
 
 -- the address of a loop's body, if there is room for one more loop
 abbrev pub body_address : List Frame → (next : ℕ) → Option ℕ
@@ -159,7 +166,8 @@ for_enter_lead frames next slot name d values =
     on_newest_number (λ step others.
     on_newest_number (λ limit more.
     on_newest_number (λ first rest.
-    enter_lead frames next name d record { slot = record { 0 = slot }; limit = limit; step = step } first) more) others) values
+    enter_lead frames next name d record
+    { slot = record { 0 = slot }; limit = limit; step = step } first) more) others) values
 
 -- a For takes its next iteration: the step that is kept for its slot is added to its variable
 abbrev pub for_next_lead : List Frame → (next : ℕ) → (slot : ℕ) → (name : List ℕ) → ℤ → Outcome Lead
@@ -182,7 +190,8 @@ enters_lead frames arguments entry =
 abbrev pub call_lead : PlainCode → List Frame → (name : List ℕ) → ℕ → List Argument → Outcome Lead
 call_lead code frames name n arguments =
     if nat_le n (length arguments)
-    then then_gives (if_there (get code.headings name)) (enters_lead frames (newest_arguments n arguments)) else Outcome.undefined
+    then then_gives (if_there (get code.headings name)) (enters_lead frames (newest_arguments n arguments))
+    else Outcome.undefined
 
 -- the newest frame is left, and the run goes on where its caller waits; in main it is over
 abbrev pub leave_lead : PlainCode → List Frame → Outcome Lead
@@ -195,14 +204,19 @@ leave_lead code frames =
 
 -- the table of instructions: what the one before the next address leads to in these frames, where this is left of the input and
 -- this was written, with these operands, the newest first, and these arguments, in the order in which they were added
-abbrev pub lead : PlainCode → List Frame → (rest output : List ℕ) → (next : ℕ) → List Value → List Argument → PlainInstr → Outcome Lead
+abbrev pub lead : PlainCode → List Frame → (rest output : List ℕ) → (next : ℕ) → List Value → List Argument
+    → PlainInstr → Outcome Lead
 lead code frames rest output next values arguments (PlainInstr.place place) = Outcome.gives (Lead.arrives place)
 lead code frames rest output next values arguments PlainInstr.suspend_placeholder = Outcome.stops Reason.Placeholder
 lead code frames rest output next values arguments PlainInstr.suspend_marked = Outcome.stops Reason.Marked
-lead code frames rest output next values arguments (PlainInstr.push_number z) = push_lead next values arguments (Value.Fixed z)
-lead code frames rest output next values arguments (PlainInstr.push_bit b) = push_lead next values arguments (Value.Bit b)
-lead code frames rest output next values arguments (PlainInstr.push_text x) = push_lead next values arguments (Value.Text x)
-lead code frames rest output next values arguments (PlainInstr.load name) = load_lead frames next arguments name None values
+lead code frames rest output next values arguments (PlainInstr.push_number z) =
+    push_lead next values arguments (Value.Fixed z)
+lead code frames rest output next values arguments (PlainInstr.push_bit b) =
+    push_lead next values arguments (Value.Bit b)
+lead code frames rest output next values arguments (PlainInstr.push_text x) =
+    push_lead next values arguments (Value.Text x)
+lead code frames rest output next values arguments (PlainInstr.load name) =
+    load_lead frames next arguments name None values
 lead code frames rest output next values arguments (PlainInstr.load_at name) =
     on_newest_number (λ z others. load_lead frames next arguments name (Some z) others) values
 lead code frames rest output next values arguments (PlainInstr.store name) =
@@ -213,19 +227,23 @@ lead code frames rest output next values arguments (PlainInstr.unary op) =
     on_newest (λ a others. then_gives (prefix_value op a) (push_lead next others arguments)) values
 lead code frames rest output next values arguments (PlainInstr.binary op) =
     on_newest (λ b others. on_newest (λ a more. then_gives (infix_value op a b) (push_lead next more arguments)) others) values
-lead code frames rest output next values arguments (PlainInstr.builtin function n) = builtin_lead next arguments function n values
+lead code frames rest output next values arguments (PlainInstr.builtin function n) =
+    builtin_lead next arguments function n values
 lead code frames rest output next values arguments (PlainInstr.jump d) = jumped next values arguments d
 lead code frames rest output next values arguments (PlainInstr.jump_false d) =
     on_newest (λ value others. on_bit (λ b.
     if b then Outcome.gives (Lead.goes_on next others arguments) else jumped next others arguments d) value) values
-lead code frames rest output next values arguments (PlainInstr.for_enter slot name d) = for_enter_lead frames next slot name d values
-lead code frames rest output next values arguments (PlainInstr.for_next slot name d) = for_next_lead frames next slot name d
+lead code frames rest output next values arguments (PlainInstr.for_enter slot name d) =
+    for_enter_lead frames next slot name d values
+lead code frames rest output next values arguments (PlainInstr.for_next slot name d) =
+    for_next_lead frames next slot name d
 lead code frames rest output next values arguments (PlainInstr.get name) = get_lead frames rest next name None
 lead code frames rest output next values arguments (PlainInstr.get_at name) =
     on_newest_number (λ z others. get_lead frames rest next name (Some z)) values
 lead code frames rest output next values arguments (PlainInstr.put n) = put_lead next output false n values
 lead code frames rest output next values arguments (PlainInstr.put_skip n) = put_lead next output true n values
-lead code frames rest output next values arguments (PlainInstr.reference name) = reference_lead frames next arguments name None values
+lead code frames rest output next values arguments (PlainInstr.reference name) =
+    reference_lead frames next arguments name None values
 lead code frames rest output next values arguments (PlainInstr.reference_at name) =
     on_newest_number (λ z others. reference_lead frames next arguments name (Some z) others) values
 lead code frames rest output next values arguments PlainInstr.dummy =

@@ -17,7 +17,8 @@ use Rattle.plcs_machine.specs.Fetched.{result_of}
 -- the code of a tree, by the tree's own items, begins a run, and that is the new run of the tree
 abbrev pub CodeBeginsAsTree : Type 0
 CodeBeginsAsTree =
-    (tree : PlainTree) (marks : MarkMap) (items : ItemMap) → IsTree tree → MarksTell marks tree.items → ScopeTells items tree.items
+    (tree : PlainTree) (marks : MarkMap) (items : ItemMap) → IsTree tree → MarksTell marks tree.items
+    → ScopeTells items tree.items
     → result_of (Enter (Gen marks items tree.items)) ≡ Some (First tree.items)
 
 -- what fits a tree has a step by the code of the tree, with the tree's own marks and items

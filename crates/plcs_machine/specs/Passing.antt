@@ -105,7 +105,8 @@ variables_made (Some making) = making.variables
 
 -- where an instruction leads before the next address, behind which it is told where others lead; cells are made in a new frame
 -- alone
-abbrev pub passed : List Frame → (next : ℕ) → Option Making → (go : ℕ → Option Making → Option (Fetched Landing)) → Passing → Option (Fetched Landing)
+abbrev pub passed : List Frame → (next : ℕ) → Option Making → (go : ℕ → Option Making → Option (Fetched Landing))
+    → Passing → Option (Fetched Landing)
 passed frames next making go (Passing.lands place) = Some (at_once (landing place (variables_made making)))
 passed frames next making go (Passing.jumps d) =
     option_map behind_one (option_and_then (λ target. go target making) (jump_target next d))
@@ -123,4 +124,5 @@ passed frames next making go (Passing.makes name ty size) =
 abbrev pub settle : List Frame → List PlainInstr → (fetches address : ℕ) → Option Making → Option (Fetched Landing)
 settle frames instrs zero address making = None
 settle frames instrs (suc fetches) address making =
-    option_and_then (passed frames (address + 1) making (settle frames instrs fetches)) (option_and_then passing_of (slice_get instrs address))
+    option_and_then (passed frames (address + 1) making (settle frames instrs fetches))
+    (option_and_then passing_of (slice_get instrs address))

@@ -17,7 +17,8 @@ is_reference (Cell.Ref location) = true
 -- frame, and is no reference
 abbrev pub may_follow : List Frame → Location → Bool
 may_follow frames location =
-    nat_lt location.frame (newest frames) && option_map_or (λ cell. not (is_reference cell)) (cell_at frames location) false
+    nat_lt location.frame (newest frames)
+    && option_map_or (λ cell. not (is_reference cell)) (cell_at frames location) false
 
 -- on which cell an instruction works by a cell of the newest frame: on that itself, or on the one that it refers to, if
 -- that may be followed

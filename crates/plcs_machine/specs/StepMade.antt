@@ -36,4 +36,5 @@ StepChanges StepAnswer.Ended before now noted notes = NothingChanges before now 
 -- one
 abbrev pub MakesFrame : (wanted : Option FetchedAnswer) → (before : PlainConfiguration) → Type 0
 MakesFrame wanted before =
-    (now : PlainConfiguration) × (result_of wanted ≡ Some (PlainStepAnswer.stepped now)) × (length now.frames ≡ length before.frames + 1)
+    (now : PlainConfiguration) × (result_of wanted ≡ Some (PlainStepAnswer.stepped now))
+    × (length now.frames ≡ length before.frames + 1)

@@ -24,7 +24,8 @@ pub fn start<W: Work, C: CodeView<W>>(
     requires begins { IsSome (Enter (C.code code.now)) }
     ensures began { IfOk result (λ state. result_of (Enter (C.code code.now)) ≡ Some (plain_configuration state)) }
     ensures ready { IfOk result (λ state. (state.operands.values ≡ []) × (state.operands.arguments ≡ [])) }
-    ensures counted { OnOk result (FetchesBy (fetches_of (Enter (C.code code.now))) (W.counts work.old) (W.counts work.new)) }
+    ensures counted { OnOk result (FetchesBy (fetches_of (Enter (C.code code.now)))
+        (W.counts work.old) (W.counts work.new)) }
     ensures counts { FetchesAtMost (fetches_of (Enter (C.code code.now))) (W.counts work.old) (W.counts work.new) }
 {
     let mut frames = Frames::new(alloc)?;
@@ -49,8 +50,10 @@ fn first_frame<W: Work, C: CodeView<W>>(
     work: &mut W,
 ) -> Result<Frame, OutOfMemory>
     requires begins { IsSome (Enter (C.code code.now)) }
-    ensures began { IfOk result (λ frame. option_map (λ run. run.frames) (result_of (Enter (C.code code.now))) ≡ Some (frame ∷ [])) }
-    ensures counted { OnOk result (FetchesBy (fetches_of (Enter (C.code code.now))) (W.counts work.old) (W.counts work.new)) }
+    ensures began { IfOk result (λ frame. option_map (λ run. run.frames) (result_of (Enter (C.code code.now)))
+        ≡ Some (frame ∷ [])) }
+    ensures counted { OnOk result (FetchesBy (fetches_of (Enter (C.code code.now)))
+        (W.counts work.old) (W.counts work.new)) }
     ensures counts { FetchesAtMost (fetches_of (Enter (C.code code.now))) (W.counts work.old) (W.counts work.new) }
 {
     let loops = Loops::new(alloc)?;
@@ -74,8 +77,10 @@ fn first_place<W: Work, C: CodeView<W>>(
     requires begins { IsSome (begun_in (C.code code.now).instrs cells.old) }
     ensures began { IfOk result (λ place. result_of (begun_in (C.code code.now).instrs cells.old)
         ≡ Some record { place = plain_place place; variables = cells.new }) }
-    ensures counted { OnOk result (FetchesBy (fetches_of (begun_in (C.code code.now).instrs cells.old)) (W.counts work.old) (W.counts work.new)) }
-    ensures counts { FetchesAtMost (fetches_of (begun_in (C.code code.now).instrs cells.old)) (W.counts work.old) (W.counts work.new) }
+    ensures counted { OnOk result (FetchesBy (fetches_of (begun_in (C.code code.now).instrs cells.old))
+        (W.counts work.old) (W.counts work.new)) }
+    ensures counts { FetchesAtMost (fetches_of (begun_in (C.code code.now).instrs cells.old))
+        (W.counts work.old) (W.counts work.new) }
 {
     let mut address = 0;
     while address < code.length() {

@@ -66,8 +66,10 @@ with_value_stored location value frames = with_cell location (Cell.Held value) f
 abbrev pub frames_after : Act → (next : PlainPlace) → List Frame → List Frame
 frames_after Act.pass next frames = newest_at next frames
 frames_after (Act.store location value) next frames = newest_at next (with_value_stored location value frames)
-frames_after (Act.enter location value kept) next frames = newest_at next (with_newest (with_loop kept) (with_value_stored location value frames))
-frames_after (Act.finish location value number) next frames = newest_at next (with_newest (without_loop_at number) (with_value_stored location value frames))
+frames_after (Act.enter location value kept) next frames =
+    newest_at next (with_newest (with_loop kept) (with_value_stored location value frames))
+frames_after (Act.finish location value number) next frames =
+    newest_at next (with_newest (without_loop_at number) (with_value_stored location value frames))
 frames_after (Act.read location value count) next frames = newest_at next (with_value_stored location value frames)
 frames_after (Act.write output) next frames = newest_at next frames
 frames_after (Act.call frame) next frames = with_newest frame_waiting frames ++ (frame_at next frame ∷ [])

@@ -23,7 +23,8 @@ on_two make (a ∷ (b ∷ [])) = make a b
 on_two make (a ∷ (b ∷ (c ∷ rest))) = Outcome.undefined
 
 -- what a built-in function makes of two arguments, or of three
-abbrev pub on_two_or_three : (Value → Value → Outcome Value) → (Value → Value → Value → Outcome Value) → List Value → Outcome Value
+abbrev pub on_two_or_three : (Value → Value → Outcome Value) → (Value → Value → Value → Outcome Value) → List Value
+    → Outcome Value
 on_two_or_three two three [] = Outcome.undefined
 on_two_or_three two three (a ∷ []) = Outcome.undefined
 on_two_or_three two three (a ∷ (b ∷ [])) = two a b
@@ -35,7 +36,8 @@ on_two_or_three two three (a ∷ (b ∷ (c ∷ (d ∷ rest)))) = Outcome.undefin
 -- what the built-in function MOD makes of two numbers: the number from 0 to |b| - 1 that differs from a by a multiple
 -- of b
 abbrev pub modulo : ℤ → ℤ → Outcome Value
-modulo a b = if is_zero b then faults FaultKind.ZeroDivide else Outcome.gives (Value.Fixed (pos (residue a (nat_abs b))))
+modulo a b =
+    if is_zero b then faults FaultKind.ZeroDivide else Outcome.gives (Value.Fixed (pos (residue a (nat_abs b))))
 
 -- SUBSTR with two arguments: the bytes of a text from the i-th on, counted from 1
 abbrev pub text_from : List ℕ → ℤ → Outcome Value

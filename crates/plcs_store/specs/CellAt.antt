@@ -33,12 +33,14 @@ variable_at frames frame name = option_and_then (λ one. variable_named name one
 
 -- the cell of this number, counted from 0, of the variable of the name, if there is one
 abbrev pub element_named : List ℕ → (element : ℕ) → Variables → Option Cell
-element_named name element variables = option_and_then (λ variable. slice_get variable.cells element) (variable_named name variables)
+element_named name element variables =
+    option_and_then (λ variable. slice_get variable.cells element) (variable_named name variables)
 
 -- the cell at a location, if there is one
 abbrev pub cell_at : List Frame → Location → Option Cell
 cell_at frames location =
-    option_and_then (λ variable. slice_get variable.cells location.element) (variable_at frames location.frame location.name)
+    option_and_then (λ variable. slice_get variable.cells location.element)
+    (variable_at frames location.frame location.name)
 
 -- the location of a cell of the newest frame
 abbrev pub own_location : List Frame → (name : List ℕ) → (element : ℕ) → Location
@@ -59,7 +61,8 @@ final_location frames own = option_map (stands_for own) (cell_at frames own)
 abbrev pub element_of : Variable → Option ℤ → Outcome ℕ
 element_of variable None = Outcome.gives 0
 element_of variable (Some z) =
-    if int_le (pos 1) z && int_le z (pos variable.size) then Outcome.gives (nat_abs z - 1) else faults FaultKind.SubscriptRange
+    if int_le (pos 1) z && int_le z (pos variable.size) then Outcome.gives (nat_abs z - 1)
+    else faults FaultKind.SubscriptRange
 
 -- where the cell is for which a variable of the newest frame, with this subscript or none, finally stands: its location
 abbrev pub located : List Frame → (name : List ℕ) → (subscript : Option ℤ) → Outcome Location
@@ -110,12 +113,14 @@ with_element element cell variable = record variable { cells = slice_set variabl
 -- variables with this in a cell of one of them
 abbrev pub with_element_named : List ℕ → ℕ → Cell → Variables → Variables
 with_element_named name element cell variables =
-    option_map_or (λ variable. set_value (bytes_eq name) variables (with_element element cell variable)) (variable_named name variables) variables
+    option_map_or (λ variable. set_value (bytes_eq name) variables (with_element element cell variable))
+    (variable_named name variables) variables
 
 -- frames with this in the cell at a location
 abbrev pub with_cell : Location → Cell → List Frame → List Frame
 with_cell location cell frames =
-    changed_at location.frame (λ frame. record frame { cells = with_element_named location.name location.element cell frame.cells }) frames
+    changed_at location.frame
+    (λ frame. record frame { cells = with_element_named location.name location.element cell frame.cells }) frames
 
 -- ---- new cells
 

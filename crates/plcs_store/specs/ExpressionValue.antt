@@ -41,7 +41,8 @@ abbrev mutual
   pub expression_values : List Frame → PlainExprs → Outcome (List Value)
   expression_values frames PlainExprs.nil = Outcome.gives []
   expression_values frames (PlainExprs.cons a rest) =
-      both_give (expression_value frames a) (expression_values frames rest) (λ value values. Outcome.gives (value ∷ values))
+      both_give (expression_value frames a) (expression_values frames rest)
+      (λ value values. Outcome.gives (value ∷ values))
 
 -- for which location a variable finally stands where it is used: its subscript is evaluated, and then tested
 abbrev pub reference_location : List Frame → PlainVarRef → Outcome Location

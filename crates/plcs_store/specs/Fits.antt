@@ -54,7 +54,8 @@ is_waiting_place NodeKind.Assign point = false
 is_waiting_place (NodeKind.Filled template) point = waits_in_template template point
 
 -- a frame stands at a place of its procedure, and waits for another there or doesn't; the nodes around its place are told
-pub record StandsAround (program : Forest) (waits : Bool) (frame : Frame) (kind : NodeKind) (around : Around) : Type 0 where
+pub record StandsAround (program : Forest) (waits : Bool) (frame : Frame) (kind : NodeKind)
+    (around : Around) : Type 0 where
   pub stands : StandsInside program frame.place.slot.0 kind around
   pub exists : HasPlace program (frame_place frame)
   pub procedure : outermost_slot frame.place.slot.0 around ≡ frame.procedure.0
@@ -78,7 +79,8 @@ AllStand program (frame ∷ (above ∷ frames)) = StandsAt program true frame ×
 -- the first frame is of main, the first node of the program
 abbrev pub IsOfMain : (program : Forest) → List Frame → Type 0
 IsOfMain Forest.nil frames = ⊥
-IsOfMain (Forest.cons label inner rest) frames = option_map (λ frame. frame.procedure.0) (slice_get frames 0) ≡ Some label.slot
+IsOfMain (Forest.cons label inner rest) frames =
+    option_map (λ frame. frame.procedure.0) (slice_get frames 0) ≡ Some label.slot
 
 -- the frames stand in the program: there are 1 to 64, the first is of main, and each stands at its place
 pub record FramesStand (program : Forest) (frames : List Frame) : Type 0 where
@@ -100,8 +102,10 @@ variable_part variable = (variable.ty, variable.size)
 -- the variables of a frame that fits are those of the effective items, with their types and sizes, each once
 pub record AreVariables (items : List Declared) (variables : Variables) : Type 0 where
   pub once : IsDistinct bytes_eq (keys_of variables)
-  pub same : (name : List ℕ) → option_map variable_part (variable_named name variables) ≡ option_map declared_part (item_named name items)
-  pub whole : (name : List ℕ) (variable : Variable) → variable_named name variables ≡ Some variable → length variable.cells ≡ cells_in variable.size
+  pub same : (name : List ℕ)
+      → option_map variable_part (variable_named name variables) ≡ option_map declared_part (item_named name items)
+  pub whole : (name : List ℕ) (variable : Variable) → variable_named name variables ≡ Some variable
+      → length variable.cells ≡ cells_in variable.size
 
 -- each frame has the cells of its procedure
 abbrev pub CellsFit : (program : Forest) → List Frame → Type 0
@@ -157,7 +161,8 @@ HoldsRight frames frame kind (Cell.Ref location) = (location.frame < frame) × I
 -- each cell holds what is right
 abbrev pub ValuesFit : List Frame → Type 0
 ValuesFit frames =
-    (frame element : ℕ) (name : List ℕ) (variable : Variable) (cell : Cell) → variable_at frames frame name ≡ Some variable
+    (frame element : ℕ) (name : List ℕ) (variable : Variable) (cell : Cell)
+    → variable_at frames frame name ≡ Some variable
     → slice_get variable.cells element ≡ Some cell → HoldsRight frames frame (kind_of_type variable.ty) cell
 
 -- ---- the four together

@@ -104,7 +104,8 @@ readable_text x = if nat_le (length x) longest_text && list_all is_printable x t
 -- the text of a constant whose opening quote stood before these bytes, if nothing stands behind its closing quote
 abbrev pub whole_constant : List ℕ → Option Value
 whole_constant rest =
-    option_and_then (λ n. if n == length rest then readable_text (unquoted false rest) else None) (closed_at 0 false rest)
+    option_and_then (λ n. if n == length rest then readable_text (unquoted false rest) else None)
+    (closed_at 0 false rest)
 
 -- the text that an item is, if it is one: a quoted constant that ends the item, or the bytes as they are
 abbrev pub text_item : List ℕ → Option Value

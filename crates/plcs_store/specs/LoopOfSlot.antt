@@ -17,7 +17,8 @@ inside_one_more found = (suc found.0, found.1)
 abbrev pub loop_of_slot : (slot : ℕ) → List KeptLoop → Option NumberedLoop
 loop_of_slot slot [] = None
 loop_of_slot slot (kept ∷ loops) =
-    option_or (option_map inside_one_more (loop_of_slot slot loops)) (if kept.slot.0 == slot then Some (0, kept) else None)
+    option_or (option_map inside_one_more (loop_of_slot slot loops))
+    (if kept.slot.0 == slot then Some (0, kept) else None)
 
 -- the loop of the slot that the newest frame keeps, if it keeps one, with its number
 abbrev pub newest_loop : (slot : ℕ) → List Frame → Option NumberedLoop

@@ -30,7 +30,8 @@ new_frame procedure place variables =
 abbrev pub first_frames : (program : Forest) → List Frame
 first_frames Forest.nil = []
 first_frames (Forest.cons label inner rest) =
-    new_frame label.slot (procedure_start record { label = label; inner = inner }) (map unset_named (items_inside inner)) ∷ []
+    new_frame label.slot (procedure_start record { label = label; inner = inner })
+    (map unset_named (items_inside inner)) ∷ []
 
 -- the configuration of a new run of the program
 abbrev pub First : (program : Forest) → PlainConfiguration
@@ -41,13 +42,15 @@ First program = record { frames = first_frames program; taken = 0; output = [] }
 -- the parameter of the type that stands for the cell at a location, which is one of a variable of the kind
 abbrev pub reference_parameter : ItemType → Location → Variable → Option Variable
 reference_parameter ty location variable =
-    if same_kind (kind_of_type ty) (kind_of_type variable.ty) then Some (scalar_variable ty (Cell.Ref location)) else None
+    if same_kind (kind_of_type ty) (kind_of_type variable.ty) then Some (scalar_variable ty (Cell.Ref location))
+    else None
 
 -- the parameter of the type for an argument: it stands for a variable, or has a cell of its own with the value
 abbrev pub parameter_of : List Frame → ItemType → Argument → Option Variable
 parameter_of frames ty (Argument.Reference location) =
     option_and_then (reference_parameter ty location) (variable_at frames location.frame location.name)
-parameter_of frames ty (Argument.Dummy value) = option_map (λ kept. scalar_variable ty (Cell.Held kept)) (kept_value ty value)
+parameter_of frames ty (Argument.Dummy value) =
+    option_map (λ kept. scalar_variable ty (Cell.Held kept)) (kept_value ty value)
 
 -- the parameter of the name for an argument
 abbrev pub parameter_named : List Frame → List Declared → List ℕ → Argument → Option (List ℕ × Variable)

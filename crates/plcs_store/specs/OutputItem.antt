@@ -41,4 +41,5 @@ output_with true output values = with_items_written (with_line_ended output) val
 
 -- values are written behind what stands in the output, which stays as it is
 abbrev pub WrittenStands : Type 0
-WrittenStands = (skip : Bool) (output : List ℕ) (values : List Value) → take (length output) (output_with skip output values) ≡ output
+WrittenStands = (skip : Bool) (output : List ℕ) (values : List Value)
+    → take (length output) (output_with skip output values) ≡ output

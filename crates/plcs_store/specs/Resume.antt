@@ -23,7 +23,8 @@ heading_parts program slot = option_map (λ node. node.label.parts) (procedure_a
 
 -- the kind and the parts of what stands in the slot, if it is live
 abbrev pub template_held : (program : Forest) → (slot : ℕ) → Option HeldTemplate
-template_held program slot = option_map (λ found. record { kind = found.label.kind; parts = found.label.parts }) (site program slot)
+template_held program slot =
+    option_map (λ found. record { kind = found.label.kind; parts = found.label.parts }) (site program slot)
 
 -- ---- what is kept
 
@@ -67,12 +68,14 @@ TemplateDiffers program frame kept =
 -- ---- the answer
 
 -- a question that is asked before a run may be resumed, with the refusal where it holds, before more questions
-abbrev pub Asks : (question : Type 0) → ResumeRefusal → (more : Option ResumeRefusal → Type 0) → Option ResumeRefusal → Type 0
+abbrev pub Asks : (question : Type 0) → ResumeRefusal → (more : Option ResumeRefusal → Type 0) → Option ResumeRefusal
+    → Type 0
 Asks question refusal more answer = (question × (answer ≡ Some refusal)) ⊎ ((¬ question) × more answer)
 
 -- when a suspended run may be resumed in the program, as far as one of its frames says, before the frames above it are
 -- asked for
-abbrev pub AsksFrame : (program : Forest) → Frame → Parts → List Declared → HeldTemplate → (more : Option ResumeRefusal → Type 0) → Option ResumeRefusal → Type 0
+abbrev pub AsksFrame : (program : Forest) → Frame → Parts → List Declared → HeldTemplate
+    → (more : Option ResumeRefusal → Type 0) → Option ResumeRefusal → Type 0
 AsksFrame program frame heading items template more =
     Asks (HeadingDiffers program frame heading) (ResumeRefusal.HeadingChanged frame.procedure)
     (Asks (ItemsDiffer program frame items) (ResumeRefusal.DeclarationChanged frame.procedure)
@@ -80,7 +83,8 @@ AsksFrame program frame heading items template more =
 
 -- whether a suspended run may be resumed in the program, by its frames from main upward, each with what is kept for it:
 -- none is a yes, and else it is the first refusal that holds
-abbrev pub AsksFrames : (program : Forest) → List Frame → List Parts → List (List Declared) → List HeldTemplate → Option ResumeRefusal → Type 0
+abbrev pub AsksFrames : (program : Forest) → List Frame → List Parts → List (List Declared) → List HeldTemplate
+    → Option ResumeRefusal → Type 0
 AsksFrames program [] headings declared held answer = answer ≡ None
 AsksFrames program (frame ∷ frames) [] declared held answer = ⊥
 AsksFrames program (frame ∷ frames) (heading ∷ headings) [] held answer = ⊥

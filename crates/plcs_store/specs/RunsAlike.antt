@@ -43,4 +43,5 @@ SubstanceKeepsAlike = (one other : Forest) → substance one ≡ substance other
 
 -- what is kept of a program for a run is told by both, so that nothing else is kept
 abbrev pub KeptIsOne : Type 0
-KeptIsOne = (program : Forest) (c : PlainConfiguration) (kept : Kept) → IsKeptOf program c kept → kept ≡ kept_of program c
+KeptIsOne =
+    (program : Forest) (c : PlainConfiguration) (kept : Kept) → IsKeptOf program c kept → kept ≡ kept_of program c

@@ -47,7 +47,8 @@ callee_of signature node =
 -- what a call needs of the procedure of the name, if there is one with an effective heading
 abbrev pub callee_named : (program : Forest) → (name : List ℕ) → Option Callee
 callee_named program name =
-    option_and_then (λ signature. option_and_then (callee_of signature) (procedure_at program signature.slot)) (Sig program name)
+    option_and_then (λ signature. option_and_then (callee_of signature) (procedure_at program signature.slot))
+    (Sig program name)
 
 -- ---- what stands at a place
 
@@ -148,7 +149,8 @@ for_spot slot parts inside after =
 
 -- what a For does at its next iteration
 abbrev pub iteration_spot : (slot : ℕ) → List (Option PlainPhrase) → (inside after : PlainPlace) → Option Spot
-iteration_spot slot parts inside after = option_map (λ name. Spot.iterates slot name inside after) (said variable_in parts 0)
+iteration_spot slot parts inside after =
+    option_map (λ name. Spot.iterates slot name inside after) (said variable_in parts 0)
 
 -- what PUT and PUT SKIP do
 abbrev pub put_spot : (skip : Bool) → List (Option PlainPhrase) → (next : PlainPlace) → Option Spot
@@ -188,8 +190,10 @@ template_start marked callees found Template.For =
     (for_spot found.label.slot found.label.parts (begin found.inner (place_at found.label.slot 1)) found.after)
 template_start marked callees found Template.Group = None
 template_start marked callees found Template.Get = needing marked found.label.parts (0 ∷ []) (get_spot found 0)
-template_start marked callees found Template.Put = needing marked found.label.parts (0 ∷ []) (put_spot false found.label.parts found.after)
-template_start marked callees found Template.PutSkip = needing marked found.label.parts (0 ∷ []) (put_spot true found.label.parts found.after)
+template_start marked callees found Template.Put =
+    needing marked found.label.parts (0 ∷ []) (put_spot false found.label.parts found.after)
+template_start marked callees found Template.PutSkip =
+    needing marked found.label.parts (0 ∷ []) (put_spot true found.label.parts found.after)
 template_start marked callees found Template.Call =
     needing marked found.label.parts (0 ∷ []) (option_and_then (call_spot callees) (part_at found.label.parts 0))
 template_start marked callees found Template.Return = Some Spot.leaves
@@ -204,7 +208,8 @@ start_spot marked callees found NodeKind.StatementHole = Some (Spot.halts Reason
 start_spot marked callees found NodeKind.ProcedureHole = None
 start_spot marked callees found NodeKind.Main = None
 start_spot marked callees found NodeKind.Assign =
-    needing marked found.label.parts (0 ∷ []) (option_and_then (assignment_spot found.after) (part_at found.label.parts 0))
+    needing marked found.label.parts (0 ∷ [])
+    (option_and_then (assignment_spot found.after) (part_at found.label.parts 0))
 start_spot marked callees found (NodeKind.Filled template) = template_start marked callees found template
 
 -- ---- what stands at the other points
@@ -254,7 +259,8 @@ site_spot marked callees found (suc point) = point_spot marked found (suc point)
 -- what stands at a place, where it is told of each phrase by its slot and part whether it is marked
 abbrev pub spot_by : (marked : (slot part : ℕ) → Bool) → (program : Forest) → PlainPlace → Option Spot
 spot_by marked program place =
-    option_and_then (λ found. site_spot (marked place.slot) (callee_named program) found place.point) (site program place.slot)
+    option_and_then (λ found. site_spot (marked place.slot) (callee_named program) found place.point)
+    (site program place.slot)
 
 -- what stands at a place of the program, if it has this place
 abbrev pub spot_at : (program : Forest) → PlainPlace → Option Spot

@@ -59,13 +59,16 @@ is_over limit step value = if int_le (pos 0) step then int_lt limit value else i
 
 -- one step of a run enters a For, or leaves it at once, where its variable has the first value; it is told where both
 -- go on
-abbrev pub entry_going : {A : Type 0} → List Frame → KeptLoop → Location → (first : ℤ) → (inside after : A) → Outcome (Act × A)
+abbrev pub entry_going : {A : Type 0} → List Frame → KeptLoop → Location → (first : ℤ) → (inside after : A)
+    → Outcome (Act × A)
 entry_going frames kept location first inside after =
     storing frames location (Value.Fixed first) (λ value.
-    if is_over kept.limit kept.step first then (Act.store location value, after) else (Act.enter location value kept, inside))
+    if is_over kept.limit kept.step first then (Act.store location value, after)
+    else (Act.enter location value kept, inside))
 
 -- a For whose three expressions are evaluated, one after the other
-abbrev pub begin_going : List Frame → (slot : ℕ) → (name : List ℕ) → (first limit step : PlainExpr) → (inside after : PlainPlace) → Outcome Going
+abbrev pub begin_going : List Frame → (slot : ℕ) → (name : List ℕ) → (first limit step : PlainExpr)
+    → (inside after : PlainPlace) → Outcome Going
 begin_going frames slot name first limit step inside after =
     then_gives (expression_value frames first) (on_number (λ a.
     then_gives (expression_value frames limit) (on_number (λ b.
@@ -75,10 +78,12 @@ begin_going frames slot name first limit step inside after =
 
 -- what one step of a run gives in which the variable of a loop of this number becomes this: the loop goes on, or is
 -- left; it is told where both go on
-abbrev pub loop_going : {A : Type 0} → List Frame → (number : ℕ) → KeptLoop → Location → (value : ℤ) → (inside after : A) → Outcome (Act × A)
+abbrev pub loop_going : {A : Type 0} → List Frame → (number : ℕ) → KeptLoop → Location → (value : ℤ)
+    → (inside after : A) → Outcome (Act × A)
 loop_going frames number kept location z inside after =
     storing frames location (Value.Fixed z) (λ value.
-    if is_over kept.limit kept.step z then (Act.finish location value number, after) else (Act.store location value, inside))
+    if is_over kept.limit kept.step z then (Act.finish location value number, after)
+    else (Act.store location value, inside))
 
 -- in one step of a run a For takes its next iteration: its kept step is added to its variable
 abbrev pub iteration_going : List Frame → (slot : ℕ) → (name : List ℕ) → (inside after : PlainPlace) → Outcome Going
@@ -110,7 +115,8 @@ read_act frames rest target = then_gives (reference_location frames target) (ite
 
 -- one step's act by which the output becomes this, if it isn't too long
 abbrev pub output_act : (output : List ℕ) → Outcome Act
-output_act output = if nat_le (length output) most_output then Outcome.gives (Act.write output) else faults FaultKind.OutputLimit
+output_act output =
+    if nat_le (length output) most_output then Outcome.gives (Act.write output) else faults FaultKind.OutputLimit
 
 -- one step's act by which values are written
 abbrev pub write_act : List Frame → (output : List ℕ) → (skip : Bool) → PlainExprs → Outcome Act
@@ -129,7 +135,8 @@ called_frame frames callee arguments =
 abbrev pub enter_going : List Frame → Callee → List Argument → Outcome Going
 enter_going frames callee arguments =
     if nat_le most_frames (length frames) then faults FaultKind.CallDepth
-    else then_gives (if_there (called_frame frames callee arguments)) (λ frame. Outcome.gives (Act.call frame, callee.start))
+    else then_gives (if_there (called_frame frames callee arguments))
+    (λ frame. Outcome.gives (Act.call frame, callee.start))
 
 -- a procedure is called, once its arguments are evaluated
 abbrev pub call_going : List Frame → Callee → PlainExprs → Outcome Going
@@ -175,14 +182,17 @@ leave_answer spots c =
     (option_and_then waits_for (option_and_then spots (caller_place c.frames)))
 
 -- the answer of a step at a spot, where it is told what stands at each place
-abbrev pub spot_answer : (spots : PlainPlace → Option Spot) → (input : List ℕ) → PlainConfiguration → Spot → Option PlainStepAnswer
+abbrev pub spot_answer : (spots : PlainPlace → Option Spot) → (input : List ℕ) → PlainConfiguration → Spot
+    → Option PlainStepAnswer
 spot_answer spots input c (Spot.halts reason) = Some (PlainStepAnswer.stopped reason)
 spot_answer spots input c (Spot.assigns target expression next) =
     step_answer c (going_on next (assignment_act c.frames target expression))
-spot_answer spots input c (Spot.tests condition inside other) = step_answer c (test_going c.frames condition inside other)
+spot_answer spots input c (Spot.tests condition inside other) =
+    step_answer c (test_going c.frames condition inside other)
 spot_answer spots input c (Spot.begins slot name first limit step inside after) =
     step_answer c (begin_going c.frames slot name first limit step inside after)
-spot_answer spots input c (Spot.iterates slot name inside after) = step_answer c (iteration_going c.frames slot name inside after)
+spot_answer spots input c (Spot.iterates slot name inside after) =
+    step_answer c (iteration_going c.frames slot name inside after)
 spot_answer spots input c (Spot.reads target next) =
     step_answer c (going_on next (read_act c.frames (drop c.taken input) target))
 spot_answer spots input c (Spot.writes skip expressions next) =

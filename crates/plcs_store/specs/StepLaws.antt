@@ -21,7 +21,8 @@ NewRunsFit = (tree : PlainTree) → IsTree tree → Fits tree.items (First tree.
 -- what fits a tree has a step there
 abbrev pub FittingRunsStep : Type 0
 FittingRunsStep =
-    (tree : PlainTree) (input : List ℕ) (c : PlainConfiguration) → IsTree tree → Fits tree.items c → IsSome (Step tree.items input c)
+    (tree : PlainTree) (input : List ℕ) (c : PlainConfiguration) → IsTree tree → Fits tree.items c
+    → IsSome (Step tree.items input c)
 
 -- what a run that fits a tree steps to fits it again
 abbrev pub StepsKeepFit : Type 0

@@ -65,10 +65,12 @@ caller_of frames = newest_frame (without_newest frames)
 abbrev pub undo_in_frame : Act → Frame → PlainConfiguration → Undo
 undo_in_frame Act.pass frame c = Undo.Moved frame.place
 undo_in_frame (Act.store location value) frame c = undo_of_cell c.frames location (Undo.Stored frame.place location)
-undo_in_frame (Act.enter location value kept) frame c = undo_of_cell c.frames location (Undo.Entered frame.place location)
+undo_in_frame (Act.enter location value kept) frame c =
+    undo_of_cell c.frames location (Undo.Entered frame.place location)
 undo_in_frame (Act.finish location value number) frame c =
     undo_of_cell c.frames location (λ cell.
-    option_map_or (λ kept. Undo.Finished frame.place location cell kept number) (slice_get frame.loops number) Undo.Empty)
+    option_map_or (λ kept. Undo.Finished frame.place location cell kept number)
+    (slice_get frame.loops number) Undo.Empty)
 undo_in_frame (Act.read location value count) frame c =
     undo_of_cell c.frames location (λ cell. Undo.Read frame.place location cell c.taken)
 undo_in_frame (Act.write output) frame c = Undo.Wrote frame.place (length c.output)
@@ -84,7 +86,8 @@ abbrev pub HasPartsFor : Act → Frame → PlainConfiguration → Type 0
 HasPartsFor Act.pass frame c = Unit {0}
 HasPartsFor (Act.store location value) frame c = IsSome (cell_at c.frames location)
 HasPartsFor (Act.enter location value kept) frame c = IsSome (cell_at c.frames location)
-HasPartsFor (Act.finish location value number) frame c = IsSome (cell_at c.frames location) × IsSome (slice_get frame.loops number)
+HasPartsFor (Act.finish location value number) frame c =
+    IsSome (cell_at c.frames location) × IsSome (slice_get frame.loops number)
 HasPartsFor (Act.read location value count) frame c = IsSome (cell_at c.frames location)
 HasPartsFor (Act.write output) frame c = take (length c.output) output ≡ c.output
 HasPartsFor (Act.call called) frame c = Unit {0}
@@ -97,4 +100,5 @@ Allows act c = (frame : Frame) × (newest_frame c.frames ≡ Some frame) × HasP
 
 -- what takes a step back is its record, wherever the step goes on
 abbrev pub StepsTakenBack : Type 0
-StepsTakenBack = (act : Act) (next : PlainPlace) (c : PlainConfiguration) → Allows act c → step_undone (undo_of act c) (done act next c) ≡ c
+StepsTakenBack = (act : Act) (next : PlainPlace) (c : PlainConfiguration) → Allows act c
+    → step_undone (undo_of act c) (done act next c) ≡ c

@@ -18,17 +18,20 @@ pub record HasEntries (c : PlainConfiguration) (kept : Kept) : Type 0 where
 
 -- the answer is right, a refusal or none: by what is kept the run may be resumed with this answer, and with no other
 abbrev pub IsResumeAnswer : Kept → PlainConfiguration → (program : Forest) → Option ResumeRefusal → Type 0
-IsResumeAnswer kept c program answer = (other : Option ResumeRefusal) → MayResume kept c program other ↔ (other ≡ answer)
+IsResumeAnswer kept c program answer =
+    (other : Option ResumeRefusal) → MayResume kept c program other ↔ (other ≡ answer)
 
 -- ---- the answers of its parts
 
 -- the answer is right for the frames, each with what is kept for it, and no other is
-abbrev pub IsFramesAnswer : (program : Forest) → List Frame → List Parts → List (List Declared) → List HeldTemplate → Option ResumeRefusal → Type 0
+abbrev pub IsFramesAnswer : (program : Forest) → List Frame → List Parts → List (List Declared) → List HeldTemplate
+    → Option ResumeRefusal → Type 0
 IsFramesAnswer program frames headings declared held answer =
     (other : Option ResumeRefusal) → AsksFrames program frames headings declared held other ↔ (other ≡ answer)
 
 -- the answer is right for a frame alone, with what is kept for it
-abbrev pub IsFrameAnswer : (program : Forest) → Frame → Parts → List Declared → HeldTemplate → Option ResumeRefusal → Type 0
+abbrev pub IsFrameAnswer : (program : Forest) → Frame → Parts → List Declared → HeldTemplate → Option ResumeRefusal
+    → Type 0
 IsFrameAnswer program frame heading items template answer =
     AsksFrame program frame heading items template (λ other. other ≡ None) answer
 

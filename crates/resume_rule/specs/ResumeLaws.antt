@@ -22,14 +22,16 @@ use Rattle.resume_rule.specs.ResumeAnswer.{HasEntries}
 -- it, and so does going back to a kept tree
 abbrev pub ResumedRunsFit : Type 0
 ResumedRunsFit =
-    (earlier later : PlainTree) (c : PlainConfiguration) (kept : Kept) → IsTree earlier → IsTree later → AgreesWith earlier later
+    (earlier later : PlainTree) (c : PlainConfiguration) (kept : Kept) → IsTree earlier → IsTree later
+    → AgreesWith earlier later
     → Fits earlier.items c → IsKeptOf earlier.items c kept → MayResume kept c later.items None
     → Fits later.items (resolved later.items c)
 
 -- so it is where the later tree came from the earlier one by any list of edits
 abbrev pub EditedRunsFit : Type 0
 EditedRunsFit =
-    (earlier later : PlainTree) (c : PlainConfiguration) (kept : Kept) → IsTree earlier → IsTree later → CameByEdits earlier later
+    (earlier later : PlainTree) (c : PlainConfiguration) (kept : Kept) → IsTree earlier → IsTree later
+    → CameByEdits earlier later
     → Fits earlier.items c → IsKeptOf earlier.items c kept → MayResume kept c later.items None
     → Fits later.items (resolved later.items c)
 
@@ -43,7 +45,8 @@ FittingRunsResolved = (program : Forest) (c : PlainConfiguration) → Fits progr
 -- what is kept for a configuration that fits has an entry for each frame, as the question asks of it
 abbrev pub KeptHasEntries : Type 0
 KeptHasEntries =
-    (program : Forest) (c : PlainConfiguration) (kept : Kept) → Fits program c → IsKeptOf program c kept → HasEntries c kept
+    (program : Forest) (c : PlainConfiguration) (kept : Kept) → Fits program c → IsKeptOf program c kept
+    → HasEntries c kept
 
 -- ---- what the answer depends on
 
@@ -51,27 +54,33 @@ KeptHasEntries =
 -- heading, its effective items, and the kind and the parts of what stands in the slot of its place
 pub record HasSameForFrames (one other : Forest) (c : PlainConfiguration) : Type 0 where
   pub headings :
-      map (λ frame. heading_parts one frame.procedure.0) c.frames ≡ map (λ frame. heading_parts other frame.procedure.0) c.frames
-  pub declared : map (λ frame. Items one frame.procedure.0) c.frames ≡ map (λ frame. Items other frame.procedure.0) c.frames
+      map (λ frame. heading_parts one frame.procedure.0) c.frames
+      ≡ map (λ frame. heading_parts other frame.procedure.0) c.frames
+  pub declared : map (λ frame. Items one frame.procedure.0) c.frames
+      ≡ map (λ frame. Items other frame.procedure.0) c.frames
   pub held :
-      map (λ frame. template_held one frame.place.slot.0) c.frames ≡ map (λ frame. template_held other frame.place.slot.0) c.frames
+      map (λ frame. template_held one frame.place.slot.0) c.frames
+      ≡ map (λ frame. template_held other frame.place.slot.0) c.frames
 
 -- the answer is the same in programs that have the same for each frame; whatever else was edited doesn't count
 abbrev pub AnswersFollowFrames : Type 0
 AnswersFollowFrames =
-    (one other : Forest) (c : PlainConfiguration) (kept : Kept) (answer : Option ResumeRefusal) → HasSameForFrames one other c
+    (one other : Forest) (c : PlainConfiguration) (kept : Kept) (answer : Option ResumeRefusal)
+    → HasSameForFrames one other c
     → MayResume kept c one answer → MayResume kept c other answer
 
 -- a change that was changed back doesn't count: a run may be resumed in a program that has for each frame what the earlier one
 -- had when something was kept of it
 abbrev pub ChangedBackResumes : Type 0
 ChangedBackResumes =
-    (earlier later : Forest) (c : PlainConfiguration) (kept : Kept) → IsKeptOf earlier c kept → HasSameForFrames later earlier c
+    (earlier later : Forest) (c : PlainConfiguration) (kept : Kept) → IsKeptOf earlier c kept
+    → HasSameForFrames later earlier c
     → MayResume kept c later None
 
 -- programs of the same substance have the same for each frame, whatever the run that is to be resumed
 abbrev pub SubstanceHasSame : Type 0
-SubstanceHasSame = (one other : Forest) (c : PlainConfiguration) → substance one ≡ substance other → HasSameForFrames one other c
+SubstanceHasSame =
+    (one other : Forest) (c : PlainConfiguration) → substance one ≡ substance other → HasSameForFrames one other c
 
 -- the answer to whether a run may be resumed doesn't depend on the room of lists
 abbrev pub AnswersIgnoreRoom : Type 0

@@ -25,7 +25,8 @@ pub(crate) fn procedure_in(tree: &Tree, slot: Slot) -> Option<&Node>
 /// What stands in the slot, or `None` where it isn't live.
 pub(crate) fn node_in(tree: &Tree, slot: Slot) -> Option<&Node>
     requires tree { IsTree tree.now }
-    ensures found { option_map (λ node. node.now.label) result ≡ option_map (λ found. found.label) (site tree.now.items slot.0) }
+    ensures found { option_map (λ node. node.now.label) result
+        ≡ option_map (λ found. found.label) (site tree.now.items slot.0) }
     ensures few { IfSome result (λ node. length node.now.label.parts < 256) }
 {
     let Some(path) = tree.path_of(slot) else {

@@ -1,5 +1,5 @@
-//! A script of cases on runs: the items of the input and of the output, what variables keep, the code of programs, and its steps. Each
-//! line of the script is printed as it is, and after a case its answer, in lines that begin with `= `.
+//! A script of cases on runs: the items of the input and of the output, what variables keep, the code of programs, and
+//! its steps. Each line of the script is printed as it is, and after a case its answer, in lines that begin with `= `.
 #![tactic(auto)]
 
 ghost use Rattle.template_tree.specs.Programs.Tree.{IsTree};

@@ -51,7 +51,8 @@ comes edit tree slot stop taken =
 
 -- an edit is made, with the cursor onward from the stop
 abbrev pub comes_onward : TreeEdit → PlainTree → ℕ → PlainStop → Edited
-comes_onward edit tree slot stop = comes edit tree slot (onward (roomless_tree (tree_after edit tree slot)).items stop) None
+comes_onward edit tree slot stop =
+    comes edit tree slot (onward (roomless_tree (tree_after edit tree slot)).items stop) None
 
 -- an edit is refused, since what it needs doesn't stand at the cursor
 abbrev pub not_here : Edited
@@ -73,25 +74,30 @@ phrase_entry (Some part) phrase = TreeEdit.set_part part (Some phrase)
 -- onward
 abbrev pub outcome_of_phrase_entry : PlainTree → PlainStop → PlainPhrase → PlainNode → Edited
 outcome_of_phrase_entry tree stop phrase node =
-    if is_wanted phrase (category_in stop.part node.label.kind) then comes_onward (phrase_entry stop.part phrase) tree node.label.slot stop else not_here
+    if is_wanted phrase (category_in stop.part node.label.kind)
+    then comes_onward (phrase_entry stop.part phrase) tree node.label.slot stop else not_here
 
 -- what comes of a phrase inserted: it comes into an empty part of its category, and the cursor stays there
 abbrev pub outcome_of_phrase_insertion : PlainTree → PlainStop → PlainPhrase → Option ℕ → PlainNode → Edited
 outcome_of_phrase_insertion tree stop phrase None node = not_here
 outcome_of_phrase_insertion tree stop phrase (Some part) node =
-    if takes_phrase phrase part node then comes (TreeEdit.set_part part (Some phrase)) tree node.label.slot stop None else not_here
+    if takes_phrase phrase part node then comes (TreeEdit.set_part part (Some phrase)) tree node.label.slot stop None
+    else not_here
 
 -- what comes of a fragment inserted: a node comes into a hole of its sort, a phrase into a part, and the cursor stays
 -- on it
 abbrev pub outcome_of_insertion : PlainTree → PlainStop → PlainFragment → PlainNode → Edited
 outcome_of_insertion tree stop (PlainFragment.node new) node =
-    if takes_nodes new.label.kind stop.part node then comes (TreeEdit.put new) tree node.label.slot stop None else not_here
-outcome_of_insertion tree stop (PlainFragment.phrase phrase) node = outcome_of_phrase_insertion tree stop phrase stop.part node
+    if takes_nodes new.label.kind stop.part node then comes (TreeEdit.put new) tree node.label.slot stop None
+    else not_here
+outcome_of_insertion tree stop (PlainFragment.phrase phrase) node =
+    outcome_of_phrase_insertion tree stop phrase stop.part node
 
 -- what comes of a node taken out: a hole of this kind stays in its place, and where there is none it is refused
 abbrev pub outcome_of_node_taking : PlainTree → PlainStop → Option NodeKind → PlainNode → Edited
 outcome_of_node_taking tree stop None node = not_here
-outcome_of_node_taking tree stop (Some hole) node = comes (TreeEdit.put (lone 0 hole)) tree node.label.slot stop (Some node)
+outcome_of_node_taking tree stop (Some hole) node =
+    comes (TreeEdit.put (lone 0 hole)) tree node.label.slot stop (Some node)
 
 -- what the edit at a stop does that takes out what stands there: a node other than main and no hole, or a phrase; the
 -- cursor stays
@@ -104,11 +110,13 @@ outcome_of_taking tree stop (Some part) node =
 abbrev pub outcome_of_drop : PlainTree → PlainStop → PlainNode → Edited
 outcome_of_drop tree stop node =
     let left : PlainTree = roomless_tree (tree_after TreeEdit.drop tree node.label.slot) in
-    comes TreeEdit.drop tree node.label.slot (node_stop (path_after_drop (sort_of node.label.kind) left.items stop.path)) None
+    comes TreeEdit.drop tree node.label.slot
+    (node_stop (path_after_drop (sort_of node.label.kind) left.items stop.path)) None
 
 -- what the edit that deletes does at a stop: a hole in a list of two or more is dropped, all else is taken out
 abbrev pub outcome_of_deletion : PlainTree → PlainStop → PlainNode → Edited
-outcome_of_deletion tree stop node = if is_spare_hole tree.items stop node then outcome_of_drop tree stop node else outcome_of_taking tree stop stop.part node
+outcome_of_deletion tree stop node = if is_spare_hole tree.items stop node then outcome_of_drop tree stop node
+    else outcome_of_taking tree stop stop.part node
 
 -- what comes of an edit at the node that stands at a path, if one does, and else it is refused
 abbrev pub at_node : (PlainNode → Edited) → Option PlainNode → Edited
@@ -119,7 +127,8 @@ at_node edit (Some node) = edit node
 abbrev pub outcome_of_hole_beside : PlainTree → Side → Option (List ℕ) → Edited
 outcome_of_hole_beside tree side None = not_here
 outcome_of_hole_beside tree side (Some path) =
-    at_node (λ node. comes (TreeEdit.add side) tree node.label.slot (node_stop (added_path side path)) None) (node_at tree.items path)
+    at_node (λ node. comes (TreeEdit.add side) tree node.label.slot (node_stop (added_path side path)) None)
+    (node_at tree.items path)
 
 -- what comes of an edit at the cursor's node: the one at the stop, or whose part the stop is
 abbrev pub outcome_at_node : PlainTree → PlainStop → PlainEdit → PlainNode → Edited
@@ -128,7 +137,8 @@ outcome_at_node tree stop (PlainEdit.enter phrase) node = outcome_of_phrase_entr
 outcome_at_node tree stop (PlainEdit.insert fragment) node = outcome_of_insertion tree stop fragment node
 outcome_at_node tree stop PlainEdit.delete node = outcome_of_deletion tree stop node
 outcome_at_node tree stop PlainEdit.take node = outcome_of_taking tree stop stop.part node
-outcome_at_node tree stop (PlainEdit.beside side) node = outcome_of_hole_beside tree side (enclosing_item tree.items stop.path)
+outcome_at_node tree stop (PlainEdit.beside side) node =
+    outcome_of_hole_beside tree side (enclosing_item tree.items stop.path)
 
 -- what comes of an edit at a stop of the tree; want of memory is not told
 unfoldable pub edited : PlainTree → PlainStop → PlainEdit → Edited

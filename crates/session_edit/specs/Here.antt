@@ -50,16 +50,19 @@ takes_at tree stop = option_map_or (can_take stop.part) (node_at tree.items stop
 
 -- whether nodes of the kind can be put in at the node: the cursor stands on it, and it is a hole of their sort
 abbrev pub takes_nodes : NodeKind → Option ℕ → PlainNode → Bool
-takes_nodes kind part node = is_none part && (is_hole node.label.kind && same_sort (sort_of node.label.kind) (sort_of kind))
+takes_nodes kind part node =
+    is_none part && (is_hole node.label.kind && same_sort (sort_of node.label.kind) (sort_of kind))
 
 -- whether the phrase can be put in at the part of the node: the part is empty and of the category of the phrase
 abbrev pub takes_phrase : PlainPhrase → ℕ → PlainNode → Bool
-takes_phrase phrase part node = is_none (part_at node.label.parts part) && is_wanted phrase (part_category node.label.kind part)
+takes_phrase phrase part node =
+    is_none (part_at node.label.parts part) && is_wanted phrase (part_category node.label.kind part)
 
 -- whether at the stop of the cursor a hole can come beside the node at this path: it is an item of a list
 abbrev pub is_list_item : Forest → List ℕ → Bool
 is_list_item items path =
-    option_map_or (λ node. is_listed (sort_of node.label.kind) (sections_at program_sections items path)) (node_at items path) false
+    option_map_or (λ node. is_listed (sort_of node.label.kind) (sections_at program_sections items path))
+    (node_at items path) false
 
 -- whether the node at the path is a hole in a list of two or more, and the cursor stands on it
 abbrev pub is_spare_hole : Forest → PlainStop → PlainNode → Bool
@@ -71,7 +74,8 @@ is_spare_hole items stop node =
 -- numbers of a path that leads to one
 abbrev pub nearest_item : Forest → List ℕ → ℕ → Option (List ℕ)
 nearest_item items path zero = None
-nearest_item items path (suc n) = if is_list_item items (take (suc n) path) then Some (take (suc n) path) else nearest_item items path n
+nearest_item items path (suc n) =
+    if is_list_item items (take (suc n) path) then Some (take (suc n) path) else nearest_item items path n
 
 -- the path of the item of a list beside which a hole comes: the nearest one that the node at the path is, or in which
 -- it stands

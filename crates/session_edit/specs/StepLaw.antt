@@ -20,7 +20,8 @@ EditsAtStopsAreSteps =
 -- whatever is answered to an edit at a stop, the tree then came by edits from the one before: by that edit, or by none
 abbrev pub AnswersComeByEdits : Type 0
 AnswersComeByEdits =
-    (before after : PlainTree) (stop : PlainStop) (edit : PlainEdit) (takes_memory : Bool) (answer : Result Applied TreeFault)
+    (before after : PlainTree) (stop : PlainStop) (edit : PlainEdit) (takes_memory : Bool)
+    (answer : Result Applied TreeFault)
     → IsTree before
     → IsAnswer takes_memory (edited (roomless_tree before) stop edit) before after answer
     → CameByEdits before after

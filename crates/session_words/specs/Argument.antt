@@ -78,6 +78,7 @@ abbrev pub command_with : PlainArgumentRule → List ℕ → PlainReading
 command_with (PlainArgumentRule.nothing command) [] = Ok command
 command_with (PlainArgumentRule.nothing command) (byte ∷ rest) = Err WrongArgument
 command_with (PlainArgumentRule.name make) argument = command_from make (name_in argument)
-command_with (PlainArgumentRule.number least most otherwise make) argument = command_from make (number_in least most otherwise argument)
+command_with (PlainArgumentRule.number least most otherwise make) argument =
+    command_from make (number_in least most otherwise argument)
 command_with (PlainArgumentRule.text make) argument = command_from make (text_in argument)
 command_with (PlainArgumentRule.file make) argument = command_from make (file_name_in argument)

@@ -34,4 +34,5 @@ Keeps program old new = KeepsBeside old.kept program old new
 
 -- the law of what a suspended run keeps: for a run that fits a program, what is kept of that is there
 abbrev pub FittingRunsAreKept : Type 0
-FittingRunsAreKept = (program : Forest) (c : PlainConfiguration) → Fits program c → IsKeptOf program c (kept_of program c)
+FittingRunsAreKept =
+    (program : Forest) (c : PlainConfiguration) → Fits program c → IsKeptOf program c (kept_of program c)

@@ -41,7 +41,8 @@ pub trait Suspending: Sized {
     /// point. It takes no memory.
     fn resumed(&mut self, tree: &Tree)
         requires tree { IsTree tree.now }
-        ensures goes_on { plain_configuration (run self.new).state ≡ resolved tree.now.items (plain_configuration (run self.old).state) }
+        ensures goes_on { plain_configuration (run self.new).state
+            ≡ resolved tree.now.items (plain_configuration (run self.old).state) }
         ensures operands { (run self.new).state.operands ≡ (run self.old).state.operands }
         ensures reason { (run self.new).reason ≡ (run self.old).reason }
         ensures dropped { (run self.new).kept ≡ None };

@@ -38,7 +38,8 @@ pub record TellsBoth (told : KeptTold) : Type 0 where
 -- and then the bytes of the source, are left to read
 abbrev pub told_editor : KeptTold → ℕ → ℕ → Told
 told_editor told given reads = record {
-  streams = record { left = left_of_both told.left told.past given; reads = reads; taken = told.taken; wants = told.wants };
+  streams =
+      record { left = left_of_both told.left told.past given; reads = reads; taken = told.taken; wants = told.wants };
   files = told.files;
   counts = told.counts;
 }

@@ -8,11 +8,12 @@ mod status;
 use kept::synth_kept;
 use key_journal::StdDisk;
 use plcs_base::Counts;
+use regular_files::RegularFiles;
 use status::KeptStatus;
 use std::io::ErrorKind;
 use std::process::ExitCode;
 use std::{env, io};
-use synth_outside::{StdFiles, StdSink, StdSource};
+use synth_outside::{StdSink, StdSource};
 use synth_top::{Status, words_of};
 
 /// How the program ends where the file `JOURNAL` can't be opened.
@@ -36,7 +37,7 @@ fn run(rt: &HostRuntime) -> KeptStatus {
         Err(error) => return status_of(&error),
     };
     let mut screen = StdSink::new(rt.stdout());
-    let mut files = StdFiles::new(rt, alloc);
+    let mut files = RegularFiles::new(rt, alloc);
     let mut work = Counts::default();
     let (status, _, _) = synth_kept(
         alloc,
@@ -54,7 +55,7 @@ fn main(rt: HostRuntime) -> ExitCode {
     let status = run(&rt);
     if status == KeptStatus::Run(Status::BadWords) {
         let _ = eprintln!(&rt;
-            "usage: synth [--rows N] [--cols N] [--keys N] [--input FILE] [PROGRAM]"
+            "usage: synth [--kept] [--rows N] [--cols N] [--keys N] [--input FILE] [PROGRAM]"
         );
     }
     ExitCode::from(status.code())

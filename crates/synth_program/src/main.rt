@@ -2,9 +2,10 @@
 #![tactic(auto)]
 
 use plcs_base::Counts;
+use regular_files::RegularFiles;
 use std::env;
 use std::process::ExitCode;
-use synth_outside::{StdFiles, StdSink, StdSource};
+use synth_outside::{StdSink, StdSource};
 use synth_top::{Status, synth, words_of};
 
 /// Runs the editor over the system's streams and the files of the current folder, without a journal.
@@ -16,7 +17,7 @@ fn run(rt: &HostRuntime) -> Status {
     };
     let mut keys = StdSource::new(rt.stdin());
     let mut screen = StdSink::new(rt.stdout());
-    let mut files = StdFiles::new(rt, alloc);
+    let mut files = RegularFiles::new(rt, alloc);
     let mut work = Counts::default();
     synth(
         alloc,
@@ -33,7 +34,7 @@ fn main(rt: HostRuntime) -> ExitCode {
     if status == Status::BadWords {
         // The status tells it too, where nothing can be written.
         let _ = eprintln!(&rt;
-            "usage: synth [--rows N] [--cols N] [--keys N] [--input FILE] [PROGRAM]"
+            "usage: synth [--kept] [--rows N] [--cols N] [--keys N] [--input FILE] [PROGRAM]"
         );
     }
     ExitCode::from(status.code())

@@ -14,4 +14,5 @@ pub record PlainHeldRun : Type 0 where
 abbrev pub IsSteady : Option Run → List Undo → Type 0
 IsSteady None undos = undos ≡ []
 IsSteady (Some run) undos =
-    CanGoBack undos (plain_configuration run.state) × (run.state.operands.values ≡ []) × (run.state.operands.arguments ≡ [])
+    CanGoBack undos (plain_configuration run.state) × (run.state.operands.values ≡ [])
+    × (run.state.operands.arguments ≡ [])

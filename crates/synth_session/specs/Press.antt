@@ -50,7 +50,8 @@ RefusedKeysChangeTheMessage =
 -- the law of keys in which a run goes on: then one stands, and no more steps were made than are asked for
 abbrev pub RunningKeysHaveRuns : Type 0
 RunningKeysHaveRuns =
-    (s : PlainSession) (key : Key) (reply : Reply) → (press s key reply).answer ≡ Answer.Running → IsRunning (press s key reply).after
+    (s : PlainSession) (key : Key) (reply : Reply) → (press s key reply).answer ≡ Answer.Running
+    → IsRunning (press s key reply).after
 
 -- the law of keys in which a run goes on, of a session: whatever can be replied to the key, the run fits the program then
 abbrev pub RunningKeysFit : PlainSession → Type 0
@@ -61,7 +62,8 @@ RunningKeysFit s =
 -- the law of keys in which no run goes on: no instruction is fetched in them
 abbrev pub StillKeysFetchNothing : Type 0
 StillKeysFetchNothing =
-    (s : PlainSession) (key : Key) (reply : Reply) → ((press s key reply).answer ≡ Answer.Running → ⊥) → (press s key reply).fetches ≡ 0
+    (s : PlainSession) (key : Key) (reply : Reply) → ((press s key reply).answer ≡ Answer.Running → ⊥)
+    → (press s key reply).fetches ≡ 0
 
 -- nothing is counted in a key with this outcome
 pub record CostsNothing (outcome : KeyOutcome) : Type 0 where

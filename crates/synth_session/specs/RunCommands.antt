@@ -30,7 +30,8 @@ most_steps trace = if trace then MOST_TRACED_STEPS else MOST_RUN_STEPS
 -- what comes of a key in which this run goes on, for so many steps: none of them is made yet
 abbrev pub running_outcome : PlainSession → (steps fetches : ℕ) → PlainRun → KeyOutcome
 running_outcome s steps fetches run =
-    record (line_acceptance_outcome (record s { run = Some run; asked = steps; made = 0 })) { answer = Answer.Running; fetches = fetches }
+    record (line_acceptance_outcome (record s { run = Some run; asked = steps; made = 0 }))
+    { answer = Answer.Running; fetches = fetches }
 
 -- a new run of a program
 abbrev pub begun_run : PlainTree → PlainRun
@@ -83,12 +84,14 @@ resume_outcome s (Some run) reply = going_outcome s (most_steps s.trace) run rep
 
 -- a run that went back to a configuration, before which these are
 abbrev pub run_back : PlainTree → PlainConfiguration → List PlainConfiguration → PlainRun
-run_back tree c earlier = record { configuration = c; reason = RunReason.Paused; kept = kept_of tree.items c; earlier = earlier }
+run_back tree c earlier =
+    record { configuration = c; reason = RunReason.Paused; kept = kept_of tree.items c; earlier = earlier }
 
 -- what comes of a run that goes back to the first of these configurations, if there is one
 abbrev pub back_to : PlainSession → List PlainConfiguration → KeyOutcome
 back_to s [] = refusal_outcome s why.NoHistory
-back_to s (c ∷ earlier) = line_notice_outcome (with_cursor_at_run (record s { run = Some (run_back s.tree c earlier) })) Notice.Paused
+back_to s (c ∷ earlier) =
+    line_notice_outcome (with_cursor_at_run (record s { run = Some (run_back s.tree c earlier) })) Notice.Paused
 
 -- the configurations from the one so many steps back on, or from the oldest on where fewer are held
 abbrev pub from_back : (steps : ℕ) → List PlainConfiguration → List PlainConfiguration
@@ -103,7 +106,8 @@ back_outcome s steps (Some run) = back_to s (from_back steps run.earlier)
 
 -- what `.trace` does: each step is shown from now on, or isn't
 abbrev pub trace_outcome : PlainSession → KeyOutcome
-trace_outcome s = line_notice_outcome (record s { trace = not s.trace }) (if s.trace then Notice.TraceOff else Notice.TraceOn)
+trace_outcome s =
+    line_notice_outcome (record s { trace = not s.trace }) (if s.trace then Notice.TraceOff else Notice.TraceOn)
 
 -- a session with more input behind the one that it has; a run that stands goes back no more
 abbrev pub with_more_input : PlainSession → List ℕ → PlainSession

@@ -139,7 +139,8 @@ pub record MayGoOn (tree : PlainTree) (is_kept : Bool) (run : PlainRun) : Type 0
 abbrev pub HasFittingRun : {W : Type 0} → Session W → Type 0
 HasFittingRun s =
     IfSome s.run.run (λ run.
-    MayGoOn (roomless_tree s.program.tree) (is_some run.kept) (plain_run (roomless_tree s.program.tree).items s.run.undos run))
+    MayGoOn (roomless_tree s.program.tree) (is_some run.kept)
+    (plain_run (roomless_tree s.program.tree).items s.run.undos run))
 
 -- the conditions of a session for a key: its parts keep those between them, its code is that of its program, and its run may go on
 pub record IsReadyForKey {W : Type 0} (s : Session W) : Type 0 where
@@ -171,7 +172,8 @@ CountsWanted outcome before now = CountsPressedAtMost outcome.checks outcome.emi
 -- what a key with this outcome counts: no more phrases are checked and no more instructions emitted than it says, just so many
 -- instructions are fetched, or at most so many where memory ran out, and no line is laid out
 abbrev pub CountsOutcome : KeyOutcome → (before now : PlainCounts) → Result Answer OutOfMemory → Type 0
-CountsOutcome outcome before now (Ok answer) = CountsPressed outcome.checks outcome.emits outcome.fetches outcome.fetches before now
+CountsOutcome outcome before now (Ok answer) =
+    CountsPressed outcome.checks outcome.emits outcome.fetches outcome.fetches before now
 CountsOutcome outcome before now (Err error) = CountsWanted outcome before now
 
 -- what became of a session in a key that asked this: it did this, by what was replied, as far as memory allows, and

@@ -38,7 +38,8 @@ with_fetches fetches answer = record { result = answer; fetches = fetches }
 
 -- the steps by a program alone, with an input; what is fetched for them is what its code takes
 abbrev pub program_steps : PlainTree → (input : List ℕ) → Steps
-program_steps tree input c = option_map (with_fetches (fetches_of (Exec (code_of tree) input c))) (Step tree.items input c)
+program_steps tree input c =
+    option_map (with_fetches (fetches_of (Exec (code_of tree) input c))) (Step tree.items input c)
 
 -- what the next step of a session's run is answered, if a run stands
 abbrev pub next_answer : Steps → PlainSession → Option FetchedAnswer
@@ -70,7 +71,8 @@ pub record Tried : Type 0 where
 
 -- what comes of trying a step of a session's run that is answered so
 abbrev pub tried_with : PlainSession → PlainRun → (fetches : ℕ) → PlainStepAnswer → Tried
-tried_with s run fetches (PlainStepAnswer.stepped next) = record { after = with_step s run next; made = true; fetches = fetches }
+tried_with s run fetches (PlainStepAnswer.stepped next) =
+    record { after = with_step s run next; made = true; fetches = fetches }
 tried_with s run fetches (PlainStepAnswer.stopped reason) =
     record { after = with_rest s run (stop_reason reason); made = false; fetches = fetches }
 tried_with s run fetches PlainStepAnswer.ended =
@@ -125,7 +127,8 @@ with_more fetches outcome = record outcome { fetches = fetches + outcome.fetches
 
 -- a tick after a step that was tried: where it was made, it goes on
 abbrev pub tick_after : Tried → (PlainSession → TickOutcome) → TickOutcome
-tick_after step go = if step.made then with_more step.fetches (go step.after) else ticked Tick.Over step.after step.fetches
+tick_after step go =
+    if step.made then with_more step.fetches (go step.after) else ticked Tick.Over step.after step.fetches
 
 -- the steps of a tick that shows none of them, at most so many: it goes on until the run stops or is over, or all are made
 unfoldable pub all_steps : Steps → (left : ℕ) → PlainSession → TickOutcome
@@ -135,7 +138,8 @@ all_steps steps (suc left) s = tick_after (tried steps s) (all_steps steps left)
 -- a tick after a step that is shown: no message is told then
 abbrev pub shown_step : Tried → TickOutcome
 shown_step step =
-    if step.made then ticked Tick.Again (record step.after { message = [] }) step.fetches else ticked Tick.Over step.after step.fetches
+    if step.made then ticked Tick.Again (record step.after { message = [] }) step.fetches
+    else ticked Tick.Over step.after step.fetches
 
 -- the step of a tick that shows it, where so many may be made yet
 abbrev pub one_step : Steps → (left : ℕ) → PlainSession → TickOutcome
@@ -205,7 +209,8 @@ RunFits s = IfSome s.run (λ run. Fits s.tree.items run.configuration)
 -- each step that a tick makes is defined, where so many may be made yet and as many are made as go on
 abbrev pub AreDefined : Steps → (left : ℕ) → PlainSession → Type 0
 AreDefined steps zero s = Unit {0}
-AreDefined steps (suc left) s = IsSome (next_answer steps s) × ((tried steps s).made ≡ true → AreDefined steps left (tried steps s).after)
+AreDefined steps (suc left) s =
+    IsSome (next_answer steps s) × ((tried steps s).made ≡ true → AreDefined steps left (tried steps s).after)
 
 -- the first step that a tick makes is defined, where so many may be made yet
 abbrev pub IsFirstDefined : Steps → (left : ℕ) → PlainSession → Type 0
@@ -241,4 +246,5 @@ pub record GoesOnAfter (before now : PlainSession) : Type 0 where
 -- the law of ticks that show a step
 abbrev pub ShownTicksGoOn : Type 0
 ShownTicksGoOn =
-    (steps : Steps) (s : PlainSession) → IsRunning s → (tick steps s).tick ≡ Tick.Again → GoesOnAfter s (tick steps s).after
+    (steps : Steps) (s : PlainSession) → IsRunning s → (tick steps s).tick ≡ Tick.Again
+    → GoesOnAfter s (tick steps s).after

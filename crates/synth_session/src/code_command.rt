@@ -37,7 +37,8 @@ impl<W: Work> Session<W> {
         requires session { IsSession self.now }
         requires code { HasProgramCode self.now }
         ensures text { PutsAll O.puts out.old (code_text (plain_session self.now).tree) out.new }
-        ensures counted { FetchesBy (code_length (plain_session self.now).tree) (W.counts work.old) (W.counts work.new) }
+        ensures counted { FetchesBy (code_length (plain_session self.now).tree)
+            (W.counts work.old) (W.counts work.new) }
     {
         let code = &self.program.dependents.code;
         for address in 0..code.length() {

@@ -61,7 +61,7 @@ impl CodeRows {
         }
     }
 
-    /// Fills the first rows, at most so many, with the instructions from this number on, of those that stand in the code
+    /// Fills the first rows, at most so many, with the instructions from this number on, of those in the code
     /// from the start on, and tells how many rows are filled; each is counted as fetched.
     pub(crate) fn fill<W: Work, C: CodeView<W>>(
         &mut self,

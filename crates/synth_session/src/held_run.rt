@@ -207,7 +207,8 @@ impl HeldRun {
             (W.counts work.old) (W.counts work.new)) }
         ensures refused { OnErr result (self.new ≡ self.old) }
         ensures calls { OnErr result (IfSome self.old.run (λ run.
-            MakesFrame (Exec (C.code code.now) input.now (plain_configuration run.state)) (plain_configuration run.state))) }
+            MakesFrame (Exec (C.code code.now) input.now (plain_configuration run.state))
+            (plain_configuration run.state))) }
     {
         let Some(mut run) = self.run.take() else {
             unreachable!()
@@ -272,7 +273,8 @@ impl HeldRun {
 /// Takes so many steps more of a run back, or as many as are held.
 fn take_back(history: &mut History, state: &mut RunState, steps: u32)
     requires able { CanGoBack history.old (plain_configuration state.old) }
-    ensures back { StepsBack steps history.old (plain_configuration state.old) history.new (plain_configuration state.new) }
+    ensures back { StepsBack steps history.old (plain_configuration state.old)
+        history.new (plain_configuration state.new) }
     ensures able { CanGoBack history.new (plain_configuration state.new) }
     ensures operands { state.new.operands ≡ state.old.operands }
 {

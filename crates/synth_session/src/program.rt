@@ -147,7 +147,8 @@ impl<W: Work> Program<W> {
         ensures tree { self.new.tree ≡ self.old.tree }
         ensures same { IfErr result (λ _. self.new.dependents ≡ self.old.dependents) }
         ensures code { IfOk result (λ _. HasCode self.new) }
-        ensures counts { CountsProgram (phrase_count (roomless_tree self.old.tree)) (code_length (roomless_tree self.old.tree))
+        ensures counts { CountsProgram
+            (phrase_count (roomless_tree self.old.tree)) (code_length (roomless_tree self.old.tree))
             (W.counts work.old) (W.counts work.new) }
     {
         let dependents = Dependents::of(alloc, &self.tree, work)?;

@@ -47,7 +47,7 @@ impl ProgramInput {
         text.len() < LONGEST_INPUT - self.bytes.len()
     }
 
-    /// Puts the text behind the input, with a line end; it has room for both. Where memory runs out, nothing is changed.
+    /// Puts the text behind the input, with a line end; it has room for both. If memory runs out, nothing is changed.
     pub(crate) fn add_line(&mut self, text: &[u8]) -> Result<(), OutOfMemory>
         requires { length self.old + (length text.now + 1) ≤ longest_input }
         ensures added { OnOk result (self.new ≡ self.old ++ (text.now ++ 10 ∷ [])) }

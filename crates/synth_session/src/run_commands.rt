@@ -33,7 +33,8 @@ impl<W: Work> Session<W> {
     pub(crate) fn run_anew(&mut self, alloc: Global, work: &mut W) -> Result<Answer, OutOfMemory>
         requires ready { IsReadyForKey self.old }
         ensures does { Does true (run_outcome (plain_session self.old)) self.old self.new result }
-        ensures counts { CountsOutcome (run_outcome (plain_session self.old)) (W.counts work.old) (W.counts work.new) result }
+        ensures counts { CountsOutcome (run_outcome (plain_session self.old))
+            (W.counts work.old) (W.counts work.new) result }
     {
         let steps = most_steps(self.trace);
         self.begin_run(alloc, steps, work)
@@ -120,7 +121,8 @@ impl<W: Work> Session<W> {
     fn begin_run(&mut self, alloc: Global, steps: u32, work: &mut W) -> Result<Answer, OutOfMemory>
         requires ready { IsReadyForKey self.old }
         ensures does { Does true (begun_outcome (plain_session self.old) steps) self.old self.new result }
-        ensures counts { CountsOutcome (begun_outcome (plain_session self.old) steps) (W.counts work.old) (W.counts work.new) result }
+        ensures counts { CountsOutcome (begun_outcome (plain_session self.old) steps)
+            (W.counts work.old) (W.counts work.new) result }
     {
         code_begins_as_tree();
         programs_have_one_code();

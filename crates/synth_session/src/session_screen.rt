@@ -68,7 +68,8 @@ impl<W: Work> Session<W> {
     fn shown_code(&mut self, work: &mut W) -> Option<usize>
         requires session { IsSession self.old }
         requires code { HasProgramCode self.old }
-        ensures rows { option_map (λ count. take count self.new.code_rows) result ≡ shown_code (plain_session self.old) }
+        ensures rows { option_map (λ count. take count self.new.code_rows) result
+            ≡ shown_code (plain_session self.old) }
         ensures few { IfSome result (λ count. count ≤ length self.new.code_rows) }
         ensures same { plain_session self.new ≡ plain_session self.old }
         ensures program { self.new.program ≡ self.old.program }

@@ -66,7 +66,8 @@ impl<W: Work> Session<W> {
         requires fits { RunFits (plain_session self.now) }
         ensures defined { IsTickDefined (own_steps self.now) (plain_session self.now) }
         ensures same { tick (own_steps self.now) (plain_session self.now)
-            ≡ tick (program_steps (plain_session self.now).tree (plain_session self.now).input) (plain_session self.now) }
+            ≡ tick (program_steps (plain_session self.now).tree (plain_session self.now).input)
+            (plain_session self.now) }
         ensures wanted { (now : PlainSession) → WantsInTick (own_steps self.now) (plain_session self.now) now
             → WantsInTick (program_steps (plain_session self.now).tree (plain_session self.now).input)
             (plain_session self.now) now }
@@ -91,10 +92,13 @@ impl<W: Work> Session<W> {
     fn show_step(&mut self, alloc: Global, work: &mut W) -> Result<Tick, OutOfMemory>
         requires session { IsSession self.old }
         requires running { IsRunning (plain_session self.old) }
-        requires defined { IsFirstDefined (own_steps self.old) (steps_left (plain_session self.old)) (plain_session self.old) }
-        ensures does { DoesTicked (one_step (own_steps self.old) (steps_left (plain_session self.old)) (plain_session self.old))
+        requires defined { IsFirstDefined (own_steps self.old) (steps_left (plain_session self.old))
+            (plain_session self.old) }
+        ensures does { DoesTicked
+            (one_step (own_steps self.old) (steps_left (plain_session self.old)) (plain_session self.old))
             (own_steps self.old) (plain_session self.old) (plain_session self.new) result }
-        ensures counted { CountsTick (one_step (own_steps self.old) (steps_left (plain_session self.old)) (plain_session self.old)).fetches
+        ensures counted { CountsTick
+            (one_step (own_steps self.old) (steps_left (plain_session self.old)) (plain_session self.old)).fetches
             (W.counts work.old) (W.counts work.new) result }
         ensures session { IsSession self.new }
         ensures program { self.new.program ≡ self.old.program }
@@ -125,10 +129,13 @@ impl<W: Work> Session<W> {
         requires session { IsSession self.old }
         requires running { IsRunning (plain_session self.old) }
         requires unshown { self.old.trace ≡ false }
-        requires defined { AreDefined (own_steps self.old) (steps_left (plain_session self.old)) (plain_session self.old) }
-        ensures does { DoesTicked (all_steps (own_steps self.old) (steps_left (plain_session self.old)) (plain_session self.old))
+        requires defined { AreDefined (own_steps self.old) (steps_left (plain_session self.old))
+            (plain_session self.old) }
+        ensures does { DoesTicked
+            (all_steps (own_steps self.old) (steps_left (plain_session self.old)) (plain_session self.old))
             (own_steps self.old) (plain_session self.old) (plain_session self.new) result }
-        ensures counted { CountsTick (all_steps (own_steps self.old) (steps_left (plain_session self.old)) (plain_session self.old)).fetches
+        ensures counted { CountsTick
+            (all_steps (own_steps self.old) (steps_left (plain_session self.old)) (plain_session self.old)).fetches
             (W.counts work.old) (W.counts work.new) result }
         ensures session { IsSession self.new }
         ensures program { self.new.program ≡ self.old.program }

@@ -31,7 +31,8 @@ value_in_word word =
 
 -- whether an option has the name
 abbrev pub is_option_name : List ℕ → Bool
-is_option_name name = list_any (λ option. bytes_eq option name) (codes "rows" ∷ codes "cols" ∷ codes "keys" ∷ codes "input" ∷ [])
+is_option_name name =
+    list_any (λ option. bytes_eq option name) (codes "rows" ∷ codes "cols" ∷ codes "keys" ∷ codes "input" ∷ [])
 
 -- ---- the values of all words
 
@@ -49,7 +50,8 @@ abbrev pub value_before : NamedValue → Option (List NamedValue) → Option (Li
 value_before value others = option_map (λ values. value ∷ values) others
 
 -- the values of an option's word and of those behind it: where it has no value in itself, the next word is its value
-abbrev pub option_values : (name : List ℕ) → (in_word : Option (List ℕ)) → (behind behind_name : Option (List NamedValue))
+abbrev pub option_values : (name : List ℕ) → (in_word : Option (List ℕ))
+    → (behind behind_name : Option (List NamedValue))
     → Option (List NamedValue)
 option_values name (Some value) behind behind_name = value_before (record { name = name; value = value }) behind
 option_values name None behind behind_name = behind_name
@@ -65,7 +67,8 @@ values_in None (word ∷ rest) =
     if bytes_eq word (codes "--") then Some (map program_value rest)
     else (if has_two_hyphens word
     then (if is_option_name (name_in_word word)
-    then option_values (name_in_word word) (value_in_word word) (values_in None rest) (values_in (Some (name_in_word word)) rest)
+    then option_values (name_in_word word) (value_in_word word) (values_in None rest)
+    (values_in (Some (name_in_word word)) rest)
     else None)
     else (if is_hyphened word then None else value_before (program_value word) (values_in None rest)))
 
@@ -100,4 +103,5 @@ given_by values = record {
 
 -- what words give, each value at most once; none where the words aren't of the command
 abbrev pub given_in : List (List ℕ) → Option PlainGiven
-given_in words = option_and_then (λ values. if has_each_once values then Some (given_by values) else None) (values_in None words)
+given_in words =
+    option_and_then (λ values. if has_each_once values then Some (given_by values) else None) (values_in None words)

@@ -102,7 +102,8 @@ refusal_told (Some refusal) s = record s { message = refusal_text (Refusal.File 
 -- the message of the first refusal
 abbrev pub first_session : PlainOptions → PlainFirstLoads → PlainSession
 first_session options loads =
-    refusal_told (first_refusal loads) (opened_session options.size (loaded_program loads.program) (loaded_input loads.input))
+    refusal_told (first_refusal loads)
+    (opened_session options.size (loaded_program loads.program) (loaded_input loads.input))
 
 -- the state once the files are loaded, with which the first screen comes; the loads leave the map as it is
 abbrev pub first_state : PlainOptions → Option FileMap → PlainFirstLoads → EditorState

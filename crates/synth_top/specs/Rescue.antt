@@ -23,7 +23,8 @@ IsRescue status rescue = rescue ≡ NoRescue
 
 -- the map of the files after a rescue: where the program was saved, it has its listing under the name `RESCUE`
 abbrev pub files_with : Rescue → EditorState → Option FileMap
-files_with Rescued state = option_map (λ map. insert map (codes "RESCUE") (Listing state.session.tree.items)) state.files
+files_with Rescued state =
+    option_map (λ map. insert map (codes "RESCUE") (Listing state.session.tree.items)) state.files
 files_with other state = state.files
 
 -- how many failures a rescue is

@@ -171,7 +171,8 @@ turn_with outcome files left_after =
 -- the turn of a key, by what is replied in it
 unfoldable pub turn : EditorState → PressedKey → Turn
 turn state pressed =
-    turn_with (press state.session pressed.key pressed.reply) (files_after (asked state pressed) pressed.reply state.files)
+    turn_with (press state.session pressed.key pressed.reply)
+    (files_after (asked state pressed) pressed.reply state.files)
     pressed.left_after
 
 -- what a pressed key is answered in its turn

@@ -110,7 +110,8 @@ pub record Course (options : PlainOptions) (first : EditorState) (before now : T
 
 -- ---- why a run stopped
 
-module _ {options : PlainOptions} {first : EditorState} {before now : ToldStreams} (course : Course options first before now) where
+module _ {options : PlainOptions} {first : EditorState} {before now : ToldStreams}
+    (course : Course options first before now) where
   -- the state after all keys that a whole run pressed
   abbrev pub state_after : EditorState
   state_after = state_after_keys first course.pressed
@@ -253,10 +254,12 @@ module _ {options : PlainOptions} {first : EditorState} {before now : ToldStream
       shot_of first.session ∷ shots first (step.at_key.earlier ++ record (step.at_key.last) { left_after = None } ∷ [])
 
   -- how many instructions were due in a whole run that stopped so, where memory ran out in a turn, and else none is told
-  abbrev pub fetches_due : (wants_before wants_now : ℕ) (status : Status) → Stopped wants_before wants_now status → Option ℕ
+  abbrev pub fetches_due : (wants_before wants_now : ℕ) (status : Status) → Stopped wants_before wants_now status
+      → Option ℕ
   fetches_due wants_before wants_now NoMemory (inl cut) = None
   fetches_due wants_before wants_now NoMemory (inr (inl cut)) = None
-  fetches_due wants_before wants_now NoMemory (inr (inr later)) = Some (all_fetched (wanted_shots wants_before wants_now later.2))
+  fetches_due wants_before wants_now NoMemory (inr (inr later)) =
+      Some (all_fetched (wanted_shots wants_before wants_now later.2))
   fetches_due wants_before wants_now status stopped = None
 
   -- what the source keeps besides its bytes is as after reads that were Ok, and then no byte was lost;
@@ -275,7 +278,8 @@ pub record OpeningWanted (options : PlainOptions) (before now : Told) : Type 0 w
 
 -- a whole run in which no session was opened, for want of memory: nothing was read or written, the map of the files
 -- is as before, their counts haven't fallen, and nothing was counted, or what opening a session counts
-pub record NotOpened (status : Status) (options : PlainOptions) (before now : Told) (after_reads : Type 0) : Type 0 where
+pub record NotOpened (status : Status) (options : PlainOptions) (before now : Told)
+    (after_reads : Type 0) : Type 0 where
   pub wanted : status ≡ NoMemory
   pub same : now.streams ≡ before.streams
   pub source : after_reads
@@ -285,7 +289,8 @@ pub record NotOpened (status : Status) (options : PlainOptions) (before now : To
   pub counts : CountsNothing before.counts now.counts ⊎ OpeningWanted options before now
 
 -- a whole run in which a session was opened: it did this, and stopped, left its source and saved as its status says
-pub record Ran (status : Status) (options : PlainOptions) (before now : Told) (after_reads after_fault : Type 0) : Type 0 where
+pub record Ran (status : Status) (options : PlainOptions) (before now : Told)
+    (after_reads after_fault : Type 0) : Type 0 where
   -- what the files did in the loads before the first screen
   pub loads : PlainFirstLoads
   pub can_load : CanLoad options before.files.stored loads
@@ -315,4 +320,5 @@ Ended status options before now after_reads after_fault =
 
 -- the whole run for a task ended so
 abbrev pub TaskEnded : PlainTask → Status → (before now : Told) → (after_reads after_fault : Type 0) → Type 0
-TaskEnded (Edit options) status before now after_reads after_fault = Ended status options before now after_reads after_fault
+TaskEnded (Edit options) status before now after_reads after_fault =
+    Ended status options before now after_reads after_fault

@@ -14,12 +14,14 @@ use Rattle.tree_steps.specs.EditStep.{CameByEdits, IsEditStep, substance}
 -- one of the laws of agreement: a live slot of a tree stands somewhere
 abbrev pub LiveSlotsStand : Type 0
 LiveSlotsStand =
-    (items : Forest) (slot : ℕ) → 1 ≤ times slot items → (kind : NodeKind) × (around : Around) × StandsInside items slot kind around
+    (items : Forest) (slot : ℕ) → 1 ≤ times slot items
+    → (kind : NodeKind) × (around : Around) × StandsInside items slot kind around
 
 -- one of the laws of agreement: a slot that stands somewhere in a tree is live
 abbrev pub StandingSlotsLive : Type 0
 StandingSlotsLive =
-    (items : Forest) (slot : ℕ) (kind : NodeKind) (around : Around) → StandsInside items slot kind around → 1 ≤ times slot items
+    (items : Forest) (slot : ℕ) (kind : NodeKind) (around : Around) → StandsInside items slot kind around
+    → 1 ≤ times slot items
 
 -- one of the laws of agreement: a slot that is there but once in a tree stands at one place
 abbrev pub SlotsStandOnce : Type 0

@@ -20,14 +20,16 @@ use Rattle.tree_steps.specs.EditStep.{CameByEdits, IsSameTree, IsEditStep}
 abbrev pub FillIsEditStep : Type 0
 FillIsEditStep =
     (before after : PlainTree) (receipt : PlainReceipt) (path : List ℕ) (template : Template) → IsTree before
-    → Edits (TreeEdit.put (fresh_node (NodeKind.Filled template))) (node_at before.items path) (IsHoleFor (NodeKind.Filled template)) before after receipt
+    → Edits (TreeEdit.put (fresh_node (NodeKind.Filled template))) (node_at before.items path)
+    (IsHoleFor (NodeKind.Filled template)) before after receipt
     → IsEditStep before after
 
 -- a hole or an assignment that became an assignment is a step
 abbrev pub FillAssignIsEditStep : Type 0
 FillAssignIsEditStep =
     (before after : PlainTree) (receipt : PlainReceipt) (path : List ℕ) (phrase : PlainPhrase) → IsTree before
-    → Edits (TreeEdit.put (assignment_node phrase)) (node_at before.items path) (TakesAssignment phrase) before after receipt
+    → Edits (TreeEdit.put (assignment_node phrase)) (node_at before.items path)
+    (TakesAssignment phrase) before after receipt
     → IsEditStep before after
 
 -- a hole that became a node is a step
@@ -40,7 +42,8 @@ InsertIsEditStep =
 -- a part that was set is a step
 abbrev pub SetPhraseIsEditStep : Type 0
 SetPhraseIsEditStep =
-    (before after : PlainTree) (receipt : PlainReceipt) (path : List ℕ) (part : ℕ) (place : Option PlainPhrase) → IsTree before
+    (before after : PlainTree) (receipt : PlainReceipt) (path : List ℕ) (part : ℕ) (place : Option PlainPhrase)
+    → IsTree before
     → Edits (TreeEdit.set_part part place) (node_at before.items path) (TakesAtStop part place) before after receipt
     → IsEditStep before after
 
@@ -84,4 +87,5 @@ EditStepsAreWays = (before after : PlainTree) → IsEditStep before after → Ca
 -- edits that follow edits make one way with them; the last tree is one
 abbrev pub EditsFollow : Type 0
 EditsFollow =
-    (first second third : PlainTree) → IsTree third → CameByEdits first second → CameByEdits second third → CameByEdits first third
+    (first second third : PlainTree) → IsTree third → CameByEdits first second → CameByEdits second third
+    → CameByEdits first third

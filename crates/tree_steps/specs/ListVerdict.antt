@@ -22,7 +22,8 @@ ListVerdictsFollowItems =
 -- procedure, which is among those of the program; nothing else in the program counts
 abbrev pub ListMarksFollowItems : Type 0
 ListMarksFollowItems =
-    (items : Forest) (slot procedure : ℕ) (found : Site) (targets : List PlainVarRef) (others : List (Option PlainPhrase))
+    (items : Forest) (slot procedure : ℕ) (found : Site) (targets : List PlainVarRef)
+    (others : List (Option PlainPhrase))
     → times slot items ≤ 1 → times procedure items ≤ 1 → procedure_of items slot ≡ Some procedure
     → site items slot ≡ Some found → found.label.parts ≡ Some (PlainPhrase.variable_list targets) ∷ others
     → is_first_marked items slot ≡ is_some (references_offence (Items items procedure) targets)

@@ -45,7 +45,8 @@ StandingSlotsHaveSites =
 -- a run that comes to a statement of a tree begins at one, in the same loops and the same procedure
 abbrev pub StatementsBegin : Type 0
 StatementsBegin =
-    (tree : PlainTree) (slot : ℕ) (kind : NodeKind) (around : Around) → IsTree tree → StandsInside tree.items slot kind around
+    (tree : PlainTree) (slot : ℕ) (kind : NodeKind) (around : Around) → IsTree tree
+    → StandsInside tree.items slot kind around
     → sort_of kind ≡ Sort.Statement
     → (place : PlainPlace) × (Start tree.items slot ≡ Some place) × BeginsAt tree.items slot around place
 
@@ -53,7 +54,8 @@ StatementsBegin =
 -- on to what stands inside them: it is at that node itself
 abbrev pub OthersBeginThemselves : Type 0
 OthersBeginThemselves =
-    (items : Forest) (slot : ℕ) (kind : NodeKind) (around : Around) → times slot items ≤ 1 → StandsInside items slot kind around
+    (items : Forest) (slot : ℕ) (kind : NodeKind) (around : Around) → times slot items ≤ 1
+    → StandsInside items slot kind around
     → passes_in kind ≡ false → Start items slot ≡ Some (place_at slot 0)
 
 -- ---- trees that agree
@@ -62,20 +64,23 @@ OthersBeginThemselves =
 abbrev pub AgreementKeepsLoops : Type 0
 AgreementKeepsLoops =
     (earlier later : PlainTree) (slot : ℕ) (was now : NodeKind) (one other : Around) → AgreesWith earlier later
-    → StandsInside earlier.items slot was one → StandsInside later.items slot now other → loops_around one ≡ loops_around other
+    → StandsInside earlier.items slot was one → StandsInside later.items slot now other
+    → loops_around one ≡ loops_around other
 
 -- the place where a run begins that comes to a slot of trees that agree, where a statement stood, is in the loops and
 -- the procedure that the slot had
 abbrev pub AgreementKeepsStarts : Type 0
 AgreementKeepsStarts =
-    (earlier later : PlainTree) (slot : ℕ) (was now : NodeKind) (one other : Around) → IsTree later → AgreesWith earlier later
+    (earlier later : PlainTree) (slot : ℕ) (was now : NodeKind) (one other : Around) → IsTree later
+    → AgreesWith earlier later
     → StandsInside earlier.items slot was one → StandsInside later.items slot now other → sort_of was ≡ Sort.Statement
     → (place : PlainPlace) × (Start later.items slot ≡ Some place) × BeginsAt later.items slot one place
 
 -- a place of trees that agree goes on to exist, where its point is kept and its slot is live
 abbrev pub AgreementKeepsPlaces : Type 0
 AgreementKeepsPlaces =
-    (earlier later : PlainTree) (was_marked is_marked : ℕ → Bool) (slot point : ℕ) (one other : Site) → AgreesWith earlier later
+    (earlier later : PlainTree) (was_marked is_marked : ℕ → Bool) (slot point : ℕ) (one other : Site)
+    → AgreesWith earlier later
     → site earlier.items slot ≡ Some one → site later.items slot ≡ Some other
     → KeepsPoint one.label other.label (was_marked slot) (is_marked slot) point
     → Exists was_marked earlier.items (place_at slot point) → Exists is_marked later.items (place_at slot point)

@@ -11,7 +11,8 @@ IsLayoutOf layout tree = layout ≡ bones_of program_sections tree.items
 
 -- the room of lists plays no part in which layout is that of a tree
 abbrev pub LayoutsIgnoreRoom : Type 0
-LayoutsIgnoreRoom = (layout : PlainLayout) (tree : PlainTree) → IsLayoutOf layout tree ↔ IsLayoutOf layout (roomless_tree tree)
+LayoutsIgnoreRoom =
+    (layout : PlainLayout) (tree : PlainTree) → IsLayoutOf layout tree ↔ IsLayoutOf layout (roomless_tree tree)
 
 -- the layout is that of a tree that becomes this one where the comment at the path is turned
 pub record IsLayoutBeforeToggle (layout : PlainLayout) (path : List ℕ) (tree : PlainTree) : Type 0 where

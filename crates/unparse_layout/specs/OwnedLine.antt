@@ -40,7 +40,8 @@ next_after next (PlainSegment.part category) = next + 1
 -- part has this number
 abbrev pub stretches_of : (next : ℕ) → List PlainSegment → List (Option PlainPhrase) → List Stretch
 stretches_of next [] parts = []
-stretches_of next (segment ∷ segments) parts = stretch_of next segment parts ∷ stretches_of (next_after next segment) segments parts
+stretches_of next (segment ∷ segments) parts =
+    stretch_of next segment parts ∷ stretches_of (next_after next segment) segments parts
 
 -- a line of the screen that belongs to a node, and in which no part stands
 abbrev pub partless_line : ℕ → LineKind → ℕ → List ℕ → OwnedLine

@@ -29,7 +29,8 @@ decls_code =
 -- the heading of a procedure was taken into the table, and comes before those of later ones
 abbrev pub TakesHeading : PlainNode → PlainHeadings → PlainHeadings → Type 0
 TakesHeading node old new =
-    (name : List ℕ) → slot_of name new ≡ option_or (option_map (λ signature. signature.slot) (signature_for name node)) (slot_of name old)
+    (name : List ℕ) → slot_of name new
+    ≡ option_or (option_map (λ signature. signature.slot) (signature_for name node)) (slot_of name old)
 
 -- a procedure was taken into the table, and comes before later ones
 pub record TakesProcedure (node : PlainNode) (old new : PlainDecls) : Type 0 where

@@ -27,7 +27,8 @@ is_among at places = list_any (eq_by_cmp phrase_cmp at) places
 -- under each name more places of its uses are noted: those for which the test of the name and the place holds
 abbrev pub Adds : (List ℕ → PhraseAt → Bool) → PlainUses → PlainUses → Type 0
 Adds test old new =
-    (name : List ℕ) (at : PhraseAt) → is_among at (mentions_of name new) ≡ (is_among at (mentions_of name old) || test name at)
+    (name : List ℕ) (at : PhraseAt)
+    → is_among at (mentions_of name new) ≡ (is_among at (mentions_of name old) || test name at)
 
 -- one place was noted under each of the names
 abbrev pub AddsNames : List (List ℕ) → PhraseAt → PlainUses → PlainUses → Type 0

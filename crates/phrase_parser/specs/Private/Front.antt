@@ -27,7 +27,8 @@ ends_word behind = not (begins_with is_name_byte behind)
 -- the name or keyword that the first so many bytes of a text are
 abbrev pub front_of_word : ℕ → List ℕ → Option Front
 front_of_word length x =
-    if nat_le length longest_name then Some (record { kind = if is_name (take length x) then kind.Name else kind.Keyword; length = length })
+    if nat_le length longest_name
+    then Some (record { kind = if is_name (take length x) then kind.Name else kind.Keyword; length = length })
     else None
 
 -- the name or keyword at the front of a text: the letters, digits and `_` that it begins with
@@ -36,7 +37,8 @@ word_front x = front_of_word (prefix_len is_name_byte x) x
 
 -- the token at the front of a text that is a number of so many digits, with the number as it is kept
 abbrev pub number_kept : ℕ → List ℕ → Front
-number_kept length x = record { kind = kind.Number (min (numeral_value (take length x)) greatest_kept); length = length }
+number_kept length x =
+    record { kind = kind.Number (min (numeral_value (take length x)) greatest_kept); length = length }
 
 -- the number at the front of a text: the digits that it begins with
 abbrev pub number_front : List ℕ → Front

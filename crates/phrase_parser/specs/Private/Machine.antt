@@ -105,7 +105,8 @@ infix_of sign = None
 abbrev pub reduced : ParseStack → ℕ → PlainExpr → Operand
 reduced (base b) level t = (base b, t)
 reduced (prefix op s) level t = reduced s level (PlainExpr.unary op t)
-reduced (left a op s) level t = if nat_le level (priority op) then reduced s level (PlainExpr.binary op a t) else (left a op s, t)
+reduced (left a op s) level t =
+    if nat_le level (priority op) then reduced s level (PlainExpr.binary op a t) else (left a op s, t)
 reduced (parenthesis s) level t = (parenthesis s, t)
 reduced (subscript name s) level t = (subscript name s, t)
 reduced (arguments function done s) level t = (arguments function done s, t)

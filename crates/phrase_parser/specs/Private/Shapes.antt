@@ -59,7 +59,8 @@ LastWithin limit (Last.Named is_builtin level) = level ≤ limit
 
 -- the levels that the check keeps of the open parentheses of an expression are not over the limit
 abbrev pub NestingWithin : ℕ → Ground → List Bracket → Type 0
-NestingWithin limit at brackets = (model.ground_level at ≤ limit) × AllByRecursion (λ bracket. bracket.level ≤ limit) brackets
+NestingWithin limit at brackets =
+    (model.ground_level at ≤ limit) × AllByRecursion (λ bracket. bracket.level ≤ limit) brackets
 
 -- what the check keeps is within the limit: no level of all that is open in its shape, as the model of its findings has
 -- it, is over that

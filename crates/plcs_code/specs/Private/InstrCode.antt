@@ -11,7 +11,8 @@ use Rattle.plcs_code.specs.PlainInstr.{PlainInstr, plain_instr}
 
 -- an instruction as one of the code, with its text beside it where it pushes one
 abbrev pub spelled_instr : PlainInstr → Option (List ℕ) × Instr
-spelled_instr (PlainInstr.place at) = (None, Instr.At record { slot = record { 0 = at.slot }; point = record { 0 = at.point } })
+spelled_instr (PlainInstr.place at) =
+    (None, Instr.At record { slot = record { 0 = at.slot }; point = record { 0 = at.point } })
 spelled_instr PlainInstr.suspend_placeholder = (None, Instr.SuspendPlaceholder)
 spelled_instr PlainInstr.suspend_marked = (None, Instr.SuspendMarked)
 spelled_instr (PlainInstr.push_number z) = (None, Instr.PushNumber z)

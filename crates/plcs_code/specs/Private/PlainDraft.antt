@@ -18,7 +18,8 @@ draft_code =
     (λ t. record { instrs = t.0; failed = t.1 }) (λ _. refl)
 
 -- an instruction came into a draft, and was counted, unless memory ran out by now; more than one is never counted
-pub record DraftsOne (before : PlainDraft) (counts_before : PlainCounts) (instr : PlainInstr) (after : PlainDraft) (counts_now : PlainCounts) : Type 0 where
+pub record DraftsOne (before : PlainDraft) (counts_before : PlainCounts) (instr : PlainInstr) (after : PlainDraft)
+    (counts_now : PlainCounts) : Type 0 where
   pub failed : after.failed ≡ false → before.failed ≡ false
   pub instrs : after.failed ≡ false → after.instrs ≡ before.instrs ++ (instr ∷ [])
   pub counted : after.failed ≡ false → EmitsOne counts_before counts_now
@@ -36,7 +37,8 @@ tally_code =
     (λ t. record { count = t.0; failed = t.1 }) (λ _. refl)
 
 -- an instruction came into a tally, which counts code ahead, unless there are too many by now; it is no work
-pub record TalliesOne (before : PlainTally) (counts_before : PlainCounts) (instr : PlainInstr) (after : PlainTally) (counts_now : PlainCounts) : Type 0 where
+pub record TalliesOne (before : PlainTally) (counts_before : PlainCounts) (instr : PlainInstr) (after : PlainTally)
+    (counts_now : PlainCounts) : Type 0 where
   pub failed : after.failed ≡ false → before.failed ≡ false
   pub count : after.failed ≡ false → after.count ≡ before.count + 1
   pub counts : CountsNothing counts_before counts_now

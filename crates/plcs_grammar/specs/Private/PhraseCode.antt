@@ -60,7 +60,8 @@ IsCons (gcons a b) = Unit {0}
 -- bushes with one code are one, so that phrases are told apart by them
 pub bush_code_of_inj : (x y : Bush) → bush_code_of x ≡ bush_code_of y → x ≡ y
 bush_code_of_inj leaf leaf p = refl
-bush_code_of_inj (twig m a b) (twig n c d) p = λ i. twig (mark_code.inj m n (ap head p) i) (bush_code_of_inj a c (ap (λ g. head (tail g)) p) i) (bush_code_of_inj b d (ap (λ g. tail (tail g)) p) i)
+bush_code_of_inj (twig m a b) (twig n c d) p = λ i. twig (mark_code.inj m n (ap head p) i)
+    (bush_code_of_inj a c (ap (λ g. head (tail g)) p) i) (bush_code_of_inj b d (ap (λ g. tail (tail g)) p) i)
 bush_code_of_inj leaf (twig n c d) p = absurd (subst IsCons (sym p) tt)
 bush_code_of_inj (twig m a b) leaf p = absurd (subst IsCons p tt)
 
@@ -77,13 +78,15 @@ abbrev mutual
   expr_bush (PlainExpr.unary op a) = twig (inr (inr (inr (inl op)))) (expr_bush a) leaf
   expr_bush (PlainExpr.binary op a b) = twig (inr (inr (inr (inr (inl op))))) (expr_bush a) (expr_bush b)
   expr_bush (PlainExpr.builtin f arguments) = twig (inr (inr (inr (inr (inr (inl f)))))) (exprs_bush arguments) leaf
-  expr_bush (PlainExpr.variable reference) = twig (inr (inr (inr (inr (inr (inr true)))))) (reference_bush reference) leaf
+  expr_bush (PlainExpr.variable reference) =
+      twig (inr (inr (inr (inr (inr (inr true)))))) (reference_bush reference) leaf
   expr_bush (PlainExpr.parenthesized a) = twig (inr (inr (inr (inr (inr (inr false)))))) (expr_bush a) leaf
 
   -- the bush of a variable of a phrase
   pub reference_bush : PlainVarRef → Bush
   reference_bush (PlainVarRef.simple name) = twig (inr (inl name)) leaf leaf
-  reference_bush (PlainVarRef.subscripted name index) = twig (inr (inl name)) (expr_bush index) (twig (inl (pos 0)) leaf leaf)
+  reference_bush (PlainVarRef.subscripted name index) =
+      twig (inr (inl name)) (expr_bush index) (twig (inl (pos 0)) leaf leaf)
 
   -- the bush of a list of expressions of a phrase
   pub exprs_bush : PlainExprs → Bush
@@ -188,7 +191,8 @@ made_of (PlainPhrase.expression e) = record (nothing_of Category.Expression) { e
 made_of (PlainPhrase.expression_list es) = record (nothing_of Category.ExpressionList) { exprs = es }
 made_of (PlainPhrase.variable_list targets) = record (nothing_of Category.VariableList) { references = targets }
 made_of (PlainPhrase.variable_name name) = record (nothing_of Category.Variable) { names = name ∷ [] }
-made_of (PlainPhrase.call name arguments) = record (nothing_of Category.CallRef) { names = name ∷ []; exprs = arguments }
+made_of (PlainPhrase.call name arguments) =
+    record (nothing_of Category.CallRef) { names = name ∷ []; exprs = arguments }
 made_of (PlainPhrase.declared_list items) = record (nothing_of Category.DeclaredList) { items = items }
 made_of (PlainPhrase.procedure_name name) = record (nothing_of Category.ProcedureName) { names = name ∷ [] }
 made_of (PlainPhrase.name_list names) = record (nothing_of Category.NameList) { names = names }

@@ -18,7 +18,8 @@ use Rattle.plcs_machine.specs.Lead.{Lead, acting_at, add_lead, body_address, ent
 
 -- a single instruction: the newest operand is added as an argument
 abbrev pub dummy_lead : (next : ℕ) → List Argument → List Value → Outcome Lead
-dummy_lead next arguments values = on_newest (λ value others. add_lead next others arguments (Argument.Dummy value)) values
+dummy_lead next arguments values =
+    on_newest (λ value others. add_lead next others arguments (Argument.Dummy value)) values
 
 -- part of what single instructions lead to: what was computed is pushed
 abbrev pub computed_lead : (next : ℕ) → List Value → List Argument → Outcome Value → Outcome Lead
@@ -26,7 +27,8 @@ computed_lead next values arguments computed = then_gives computed (push_lead ne
 
 -- the single instruction of a prefix operator: what that makes of the newest operand is pushed
 abbrev pub prefix_lead : (next : ℕ) → List Argument → PrefixOp → List Value → Outcome Lead
-prefix_lead next arguments op values = on_newest (λ a others. then_gives (prefix_value op a) (push_lead next others arguments)) values
+prefix_lead next arguments op values =
+    on_newest (λ a others. then_gives (prefix_value op a) (push_lead next others arguments)) values
 
 -- the single instruction of an infix operator: what that makes of the two newest operands is pushed
 abbrev pub infix_lead : (next : ℕ) → List Argument → InfixOp → List Value → Outcome Lead
@@ -89,4 +91,5 @@ iterate_lead frames next number kept location z d =
 
 -- a single instruction: the procedure of the name is called, with these arguments
 abbrev pub named_call_lead : PlainCode → List Frame → (name : List ℕ) → List Argument → Outcome Lead
-named_call_lead code frames name arguments = then_gives (if_there (get code.headings name)) (enters_lead frames arguments)
+named_call_lead code frames name arguments =
+    then_gives (if_there (get code.headings name)) (enters_lead frames arguments)

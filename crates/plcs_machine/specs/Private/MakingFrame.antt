@@ -26,7 +26,8 @@ with_argument name ty argument variables =
 
 -- the way from an address to the first place of a frame that is made with these variables and arguments, where these are the
 -- frames below it
-abbrev pub made_way : PlainCode → (fetches address : ℕ) → Variables → List Argument → List Frame → Option (Fetched Landing)
+abbrev pub made_way : PlainCode → (fetches address : ℕ) → Variables → List Argument → List Frame
+    → Option (Fetched Landing)
 made_way code fetches address variables arguments frames =
     settle frames code.instrs fetches address (Some (making_of variables arguments))
 

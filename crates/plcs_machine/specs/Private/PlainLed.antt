@@ -60,7 +60,8 @@ plain_led (Led.Stops reason) values arguments = Outcome.stops reason
 -- what an instruction led to that may write or read, where this was written before, and this is the next address
 abbrev pub plain_doing : (output : List ℕ) → (next : ℕ) → Doing → List Value → List Argument → Outcome Lead
 plain_doing output next (Doing.Writes skip count) values arguments = put_lead next output skip count values
-plain_doing output next (Doing.Reads location value count) values arguments = Outcome.gives (Lead.acts (Act.read location value count) next)
+plain_doing output next (Doing.Reads location value count) values arguments =
+    Outcome.gives (Lead.acts (Act.read location value count) next)
 plain_doing output next (Doing.Leads led) values arguments = plain_led led values arguments
 
 -- at which address an instruction comes next, if one does

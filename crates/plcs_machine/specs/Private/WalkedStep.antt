@@ -48,10 +48,12 @@ walked_outcome c walked values arguments = plain_doing c.output walked.next walk
 
 -- a step that begins behind a place was walked to an instruction that doesn't go on to another: its answer is the answer of the
 -- step, and it can be done
-pub record IsWalked (code : PlainCode) (rest : List ℕ) (c : PlainConfiguration) (place : Place) (walked : Walked) (values : List Value) (arguments : List Argument) : Type 0 where
+pub record IsWalked (code : PlainCode) (rest : List ℕ) (c : PlainConfiguration) (place : Place) (walked : Walked)
+    (values : List Value) (arguments : List Argument) : Type 0 where
   pub few : walked.left + 1 ≤ length code.instrs
   pub whole :
-      option_map (behind_many (length code.instrs - (walked.left + 1))) (ending_answer code c walked.left (walked_outcome c walked values arguments))
+      option_map (behind_many (length code.instrs - (walked.left + 1)))
+      (ending_answer code c walked.left (walked_outcome c walked values arguments))
       ≡ run_at code rest c place
   pub can : IsDoable c.frames (walked_outcome c walked values arguments)
   pub within : TakesAtMost (length rest) walked.doing
@@ -96,7 +98,8 @@ more_fetches wanted = fetches_of wanted - 1
 
 -- what the code answers is the answer that is wanted, after which the configuration and the record are these: a step that is
 -- made does an act, and any other changes nothing
-abbrev pub IsStepDone : (wanted : Option FetchedAnswer) → StepAnswer → (before now : PlainConfiguration) → (noted notes : Undo) → Type 0
+abbrev pub IsStepDone : (wanted : Option FetchedAnswer) → StepAnswer → (before now : PlainConfiguration)
+    → (noted notes : Undo) → Type 0
 IsStepDone wanted StepAnswer.Stepped before now noted notes =
     DoesAct before now notes × (result_of wanted ≡ Some (step_answered StepAnswer.Stepped now))
 IsStepDone wanted (StepAnswer.Stopped reason) before now noted notes =
@@ -106,7 +109,8 @@ IsStepDone wanted StepAnswer.Ended before now noted notes =
 
 -- what the code answers to a walked step is the answer that is wanted, after which the states of the run, but for
 -- operands, and the record are these
-abbrev pub IsDone : (wanted : Option FetchedAnswer) → StepAnswer → (before now : RunState) → (noted notes : Undo) → Type 0
+abbrev pub IsDone : (wanted : Option FetchedAnswer) → StepAnswer → (before now : RunState) → (noted notes : Undo)
+    → Type 0
 IsDone wanted answer before now noted notes =
     IsStepDone wanted answer (plain_configuration before) (plain_configuration now) noted notes
 

@@ -13,7 +13,8 @@ IsShown items (k ∷ path) = IsSomeAnd (visible_at items (k ∷ path)) (λ _. Un
 abbrev pub shown_below : PlainNode → List ℕ → List ℕ
 shown_below node [] = []
 shown_below node (k ∷ path) =
-    if node.label.elided then [] else k ∷ option_map_or (λ item. shown_below item path) (slice_get (nodes node.inner) k) []
+    if node.label.elided then [] else k
+    ∷ option_map_or (λ item. shown_below item path) (slice_get (nodes node.inner) k) []
 
 -- the numbers of a path, up to the first elided comment
 abbrev pub shown_numbers : Forest → List ℕ → List ℕ

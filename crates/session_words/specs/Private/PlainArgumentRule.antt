@@ -55,6 +55,7 @@ filed_command filed.Load name = PlainCommand.load name
 abbrev pub plain_argument_rule : ArgumentRule → PlainArgumentRule
 plain_argument_rule (rule.Nothing a) = PlainArgumentRule.nothing (alone_command a)
 plain_argument_rule (rule.Name n) = PlainArgumentRule.name (named_command n)
-plain_argument_rule (rule.Number range n) = PlainArgumentRule.number range.least range.most range.otherwise (numbered_command n)
+plain_argument_rule (rule.Number range n) =
+    PlainArgumentRule.number range.least range.most range.otherwise (numbered_command n)
 plain_argument_rule (rule.Text t) = PlainArgumentRule.text (texted_command t)
 plain_argument_rule (rule.File f) = PlainArgumentRule.file (filed_command f)

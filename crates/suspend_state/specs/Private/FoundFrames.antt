@@ -8,7 +8,8 @@ use Rattle.plcs_store.specs.declared.frame.Frame.{Frame}
 -- the procedure of each of the frames stands in the program
 abbrev pub HasProcedures : (program : Forest) → List Frame → Type 0
 HasProcedures program frames =
-    (number : ℕ) (frame : Frame) → slice_get frames number ≡ Some frame → IsSome (procedure_at program frame.procedure.0)
+    (number : ℕ) (frame : Frame) → slice_get frames number ≡ Some frame
+    → IsSome (procedure_at program frame.procedure.0)
 
 -- the slot of the place of each of the frames is live
 abbrev pub HasSlots : (program : Forest) → List Frame → Type 0

@@ -49,7 +49,8 @@ GoesOnIfStands program (Some run) new = (going : Run) × (new ≡ Some going) ×
 -- ---- going back
 
 -- so many steps were taken back of a configuration, or as many as are held, with these records before and now
-abbrev pub StepsBack : (steps : ℕ) → (undos_old : List Undo) → PlainConfiguration → (undos_new : List Undo) → PlainConfiguration → Type 0
+abbrev pub StepsBack : (steps : ℕ) → (undos_old : List Undo) → PlainConfiguration → (undos_new : List Undo)
+    → PlainConfiguration → Type 0
 StepsBack steps undos_old old undos_new new =
     drop (min steps (length (configurations_before undos_old old))) (old ∷ configurations_before undos_old old)
     ≡ new ∷ configurations_before undos_new new
@@ -64,7 +65,8 @@ pub record WentBack (steps : ℕ) (undos_old undos_new : List Undo) (old new : R
 -- the run that stands, if one does, went so many steps back
 abbrev pub WentBackIfStands : (steps : ℕ) → (undos_old undos_new : List Undo) → (old new : Option Run) → Type 0
 WentBackIfStands steps undos_old undos_new None new = ⊥
-WentBackIfStands steps undos_old undos_new (Some run) new = (back : Run) × (new ≡ Some back) × WentBack steps undos_old undos_new run back
+WentBackIfStands steps undos_old undos_new (Some run) new =
+    (back : Run) × (new ≡ Some back) × WentBack steps undos_old undos_new run back
 
 -- ---- one step
 
@@ -76,7 +78,8 @@ pub record MadeStep (undos_old undos_new : List Undo) (old new : Run) : Type 0 w
       ≡ take most_records (plain_configuration old.state ∷ configurations_before undos_old (plain_configuration old.state))
 
 -- a step of a run was tried, which is answered so: it was made, or the run stands still for a reason and is as it was
-abbrev pub TriesStep : (undos_old undos_new : List Undo) → (old new : Run) → Option PlainStepAnswer → Option RunReason → Type 0
+abbrev pub TriesStep : (undos_old undos_new : List Undo) → (old new : Run) → Option PlainStepAnswer → Option RunReason
+    → Type 0
 TriesStep undos_old undos_new old new answer None =
     (answer ≡ Some (PlainStepAnswer.stepped (plain_configuration new.state))) × MadeStep undos_old undos_new old new
 TriesStep undos_old undos_new old new None (Some reason) = ⊥
@@ -87,7 +90,9 @@ TriesStep undos_old undos_new old new (Some PlainStepAnswer.ended) (Some reason)
     (reason ≡ RunReason.Ended) × (new ≡ old) × (undos_new ≡ undos_old)
 
 -- a step of the run that stands was tried
-abbrev pub TriesStepIfStands : (answer : PlainConfiguration → Option PlainStepAnswer) → (undos_old undos_new : List Undo) → (old new : Option Run) → Option RunReason → Type 0
+abbrev pub TriesStepIfStands : (answer : PlainConfiguration → Option PlainStepAnswer)
+    → (undos_old undos_new : List Undo) → (old new : Option Run) → Option RunReason → Type 0
 TriesStepIfStands answer undos_old undos_new None new tried = ⊥
 TriesStepIfStands answer undos_old undos_new (Some run) new tried =
-    (now : Run) × (new ≡ Some now) × TriesStep undos_old undos_new run now (answer (plain_configuration run.state)) tried
+    (now : Run) × (new ≡ Some now)
+    × TriesStep undos_old undos_new run now (answer (plain_configuration run.state)) tried

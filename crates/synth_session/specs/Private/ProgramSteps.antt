@@ -13,7 +13,8 @@ use Rattle.synth_session.specs.ProgramCode.{code_of}
 pub record StepsOfProgram (tree : PlainTree) (input : List ℕ) (c : PlainConfiguration) : Type 0 where
   pub defined : IsSome (Exec (code_of tree) input c)
   pub same : result_of (Exec (code_of tree) input c) ≡ Step tree.items input c
-  pub fit : (next : PlainConfiguration) → Step tree.items input c ≡ Some (PlainStepAnswer.stepped next) → Fits tree.items next
+  pub fit : (next : PlainConfiguration) → Step tree.items input c ≡ Some (PlainStepAnswer.stepped next)
+      → Fits tree.items next
 
 -- so it is for each tree, without room
 abbrev pub StepsOfPrograms : Type 0

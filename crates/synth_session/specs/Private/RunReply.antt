@@ -16,7 +16,8 @@ abbrev pub CanReplyForRun : PlainSession → Reply → Type 0
 CanReplyForRun s reply = CanReply None (run_request s.tree s.run) reply
 
 -- a key that takes no memory and by which the run is to go on came to this, by what can be replied to it
-pub record HasOutcomeByReply {W : Type 0} (outcome : Reply → KeyOutcome) (before now : Session W) (answer : Answer) : Type 0 where
+pub record HasOutcomeByReply {W : Type 0} (outcome : Reply → KeyOutcome) (before now : Session W)
+    (answer : Answer) : Type 0 where
   pub reply : Reply
   pub can : CanReplyForRun (plain_session before) reply
   pub has : HasOutcome (outcome reply) before now answer

@@ -9,7 +9,8 @@ use Rattle.synth_session.specs.Tick.{Steps, TickOutcome, Tried, WantsInTick, res
 -- a step of a tick was tried so: it was made, or the session is as it was, and its run is to rest for this reason
 abbrev pub HasTried : Tried → (before now : PlainSession) → Option RunReason → Type 0
 HasTried step before now None = (step.made ≡ true) × (now ≡ step.after)
-HasTried step before now (Some reason) = (step.made ≡ false) × (now ≡ before) × (rested_in before reason before.run ≡ step.after)
+HasTried step before now (Some reason) =
+    (step.made ≡ false) × (now ≡ before) × (rested_in before reason before.run ≡ step.after)
 
 -- the steps of a tick with this outcome were made in a session, or memory ran out in it
 abbrev pub DoesTicked : TickOutcome → Steps → (before now : PlainSession) → Result Tick OutOfMemory → Type 0

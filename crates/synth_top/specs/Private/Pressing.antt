@@ -36,7 +36,8 @@ IsReady e = IsReadyForKey e.session
 -- an editor at a moment of a run before any key is pressed, and before its first screen
 pub record IsUnshown {W : Type 0} (e : Editor W) : Type 0 where
   pub ready : IsReady e
-  pub painted : shown_grid e.session ≡ blank_grid (plain_session e.session).size.rows (plain_session e.session).size.cols
+  pub painted : shown_grid e.session
+      ≡ blank_grid (plain_session e.session).size.rows (plain_session e.session).size.cols
   pub reader : e.reader ≡ []
 
 -- an editor at the moment of a run from which keys are pressed, and before its first screen, with the session of these
@@ -54,7 +55,8 @@ ReadsByte None before now = Consumes before now [] × IsAtEnd now
 
 -- one key was pressed between two moments of a run: what it asked was replied to, and the session and the answer are
 -- what comes of that
-pub record IsPressed (key : Key) (answer : Answer) (before now : PlainSession) (files_before files_now : PlainFiles) : Type 0 where
+pub record IsPressed (key : Key) (answer : Answer) (before now : PlainSession)
+    (files_before files_now : PlainFiles) : Type 0 where
   pub reply : Reply
   pub files : HaveReplied (request before key) reply files_before files_now
   pub session : now ≡ (press before key reply).after
@@ -103,7 +105,8 @@ pub record AllShown (before now : Moment) (pressed : List PressedKey) : Type 0 w
   pub unwanted : now.wanted ≡ before.wanted
   pub faults : RoseBy (failures pressed) before.files.faults now.files.faults
   pub ended : AllCameToEnd pressed
-  pub counts : CountsFor (bills (state_at before) pressed) (shots (state_at before) pressed) None before.counts now.counts
+  pub counts : CountsFor (bills (state_at before) pressed)
+      (shots (state_at before) pressed) None before.counts now.counts
 
 -- what pressing these keys did, up to a last one, between two moments of a run: none before it ended the session, all
 -- screens before its own were written, and of its own so much that `count` bytes were written in all; where memory ran
@@ -120,7 +123,8 @@ pub record UpToLast (before now : Moment) (earlier : List PressedKey) (last : Pr
   pub faults : RoseBy (failures (earlier ++ last ∷ [])) before.files.faults now.files.faults
   pub wants : now.files.wants ≡ before.files.wants
   pub left : LeftAtLast (state_at before) (earlier ++ last ∷ [])
-  pub counts : CountsFor (bills (state_at before) (earlier ++ last ∷ [])) (shots (state_at before) (earlier ++ last ∷ [])) due
+  pub counts : CountsFor (bills (state_at before) (earlier ++ last ∷ []))
+      (shots (state_at before) (earlier ++ last ∷ [])) due
       before.counts now.counts
 
 -- between two moments of a run all of these keys were pressed
@@ -175,7 +179,8 @@ pub record KeysWanted (keys : List Key) (before now : Moment) : Type 0 where
   pub pressed : List PressedKey
   pub wanted : Key
   pub takes : IsTrue (key_takes_memory (state_after_keys (state_at before) pressed).session wanted)
-  pub counts : CountsWant (request (state_after_keys (state_at before) pressed).session wanted) before.files.wants now.files.wants
+  pub counts : CountsWant
+      (request (state_after_keys (state_at before) pressed).session wanted) before.files.wants now.files.wants
   pub front : IsFront (keys_pressed pressed ++ wanted ∷ []) keys
   pub counted : PlainCounts
   pub shown : AllShown before (record now { counts = counted }) pressed
@@ -190,7 +195,8 @@ Pressed On keys before now = KeysShown keys before now
 Pressed (Over Done) keys before now = KeysQuit keys before now
 Pressed (Over WriteFault) keys before now = KeysCut keys before now
 Pressed (Over NoMemory) keys before now =
-    (KeysCut keys before now × Rose before.wanted now.wanted) ⊎ (KeysWanted keys before now ⊎ KeysStepWanted keys before now)
+    (KeysCut keys before now × Rose before.wanted now.wanted)
+    ⊎ (KeysWanted keys before now ⊎ KeysStepWanted keys before now)
 Pressed (Over ReadFault) keys before now = ⊥
 Pressed (Over BadWords) keys before now = ⊥
 Pressed (Over KeyLimit) keys before now = ⊥

@@ -46,7 +46,8 @@ pub record TicksLeft (before now : Moment) (left : Option ℕ) (count : ℕ) (du
   pub made : MadeUntil before.session left
   pub session : now.session ≡ session_until before.session left
   pub files : now.files ≡ before.files
-  pub wrote : Appends before.taken now.taken (take count (painted_over before.shown (screens_of (shots_until before.session left))))
+  pub wrote : Appends before.taken now.taken
+      (take count (painted_over before.shown (screens_of (shots_until before.session left))))
   pub counts : CountsFor no_bill (shots_until before.session left) due before.counts now.counts
 
 -- the screen of a tick of a key may be cut short where the ticks are left so: that of the last one, or one that shows a step

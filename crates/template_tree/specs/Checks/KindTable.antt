@@ -64,5 +64,6 @@ builtin_row Builtin.Mod = record { takes = Kind.Fixed ∷ (Kind.Fixed ∷ []); p
 builtin_row Builtin.Min = record { takes = Kind.Fixed ∷ (Kind.Fixed ∷ []); perhaps = None; gives = Kind.Fixed }
 builtin_row Builtin.Max = record { takes = Kind.Fixed ∷ (Kind.Fixed ∷ []); perhaps = None; gives = Kind.Fixed }
 builtin_row Builtin.Length = record { takes = Kind.Text ∷ []; perhaps = None; gives = Kind.Fixed }
-builtin_row Builtin.Substr = record { takes = Kind.Text ∷ (Kind.Fixed ∷ []); perhaps = Some Kind.Fixed; gives = Kind.Text }
+builtin_row Builtin.Substr =
+    record { takes = Kind.Text ∷ (Kind.Fixed ∷ []); perhaps = Some Kind.Fixed; gives = Kind.Text }
 builtin_row Builtin.Index = record { takes = Kind.Text ∷ (Kind.Text ∷ []); perhaps = None; gives = Kind.Fixed }

@@ -20,7 +20,8 @@ then_found (Ok a) make = make a
 then_found (Err offence) make = Err offence
 
 -- what is found behind two parts of a phrase: an offence in the first part comes first, and then one in the second
-abbrev pub both_found : {A B C : Type 0} → Result A MarkKind → Result B MarkKind → (A → B → Result C MarkKind) → Result C MarkKind
+abbrev pub both_found : {A B C : Type 0} → Result A MarkKind → Result B MarkKind → (A → B → Result C MarkKind)
+    → Result C MarkKind
 both_found (Ok a) (Ok b) make = make a b
 both_found (Ok a) (Err offence) make = Err offence
 both_found (Err offence) other make = Err offence
@@ -169,7 +170,8 @@ procedure_offence earlier name =
 -- the first offence of what is declared behind effective items: what isn't effective is an offence
 abbrev pub declared_offence : (before : List Declared) → List Declared → Option MarkKind
 declared_offence before [] = None
-declared_offence before (item ∷ rest) = option_or (item_offence before item) (declared_offence (with_declared before item) rest)
+declared_offence before (item ∷ rest) =
+    option_or (item_offence before item) (declared_offence (with_declared before item) rest)
 
 -- ---- each phrase
 

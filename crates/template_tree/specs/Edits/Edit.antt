@@ -13,7 +13,8 @@ use Rattle.template_tree.specs.Programs.Slots.{count, times, with_slots_from}
 -- the item of this number gives way to a list of items by an edit
 abbrev pub give_way : (PlainNode → List PlainNode) → ℕ → Forest → Forest
 give_way change k Forest.nil = Forest.nil
-give_way change zero (Forest.cons label inner rest) = join (forest (change record { label = label; inner = inner })) rest
+give_way change zero (Forest.cons label inner rest) =
+    join (forest (change record { label = label; inner = inner })) rest
 give_way change (suc k) (Forest.cons label inner rest) = Forest.cons label inner (give_way change k rest)
 
 -- what a node becomes where the node at the path below it gives way to a list of items
@@ -58,7 +59,8 @@ with_hole slot Side.After item = item ∷ hole_list slot (hole_of (sort_of item.
 -- the tree after an edit at a slot, which put the node in place of what stood there
 abbrev pub Put : PlainTree → ℕ → PlainNode → PlainTree
 Put tree slot node =
-    with_items tree (edit_slot slot (λ _. node_in_slot slot tree.drawn node ∷ []) tree.items) (tree.drawn + count node.inner)
+    with_items tree (edit_slot slot (λ _. node_in_slot slot tree.drawn node ∷ []) tree.items)
+    (tree.drawn + count node.inner)
 
 -- the tree after an edit at a slot, which added a hole beside the item there
 abbrev pub Add : PlainTree → ℕ → Side → PlainTree
@@ -70,7 +72,8 @@ Drop tree slot = with_items tree (edit_slot slot (λ _. []) tree.items) tree.dra
 
 -- the tree after an edit at a slot, which set a part of the node there to this
 abbrev pub Part : PlainTree → ℕ → ℕ → Option PlainPhrase → PlainTree
-Part tree slot part place = with_items tree (edit_slot slot (λ node. with_part part place node ∷ []) tree.items) tree.drawn
+Part tree slot part place =
+    with_items tree (edit_slot slot (λ node. with_part part place node ∷ []) tree.items) tree.drawn
 
 -- for an edit at a slot of a tree: the slot of main, the procedure or the procedure hole in which that stands
 abbrev pub procedure_of : Forest → ℕ → Option ℕ

@@ -20,7 +20,8 @@ use Rattle.template_tree.specs.Edits.Receipt.{PlainReceipt, undone, CanUndo}
 
 -- an edit at the node in the slot that was made is answered so: it made one tree of the other, and the receipt names it
 -- and undoes it, with the node that the edit gave out, if it gave one
-pub record IsEdit (edit : TreeEdit) (slot : ℕ) (before after : PlainTree) (receipt : PlainReceipt) (back : Option PlainNode) : Type 0 where
+pub record IsEdit (edit : TreeEdit) (slot : ℕ) (before after : PlainTree) (receipt : PlainReceipt)
+    (back : Option PlainNode) : Type 0 where
   pub became : roomless_tree after ≡ roomless_tree (tree_after edit before slot)
   pub tree : IsTree after
   pub what : receipt.change.what ≡ what_of edit
@@ -35,7 +36,8 @@ slot_in None = 0
 slot_in (Some node) = node.label.slot
 
 -- the answer to an edit that was made: it was at a node of which this holds, and gave nothing out
-pub record Edits (edit : TreeEdit) (there : Option PlainNode) (Here : PlainNode → Type 0) (before after : PlainTree) (receipt : PlainReceipt) : Type 0 where
+pub record Edits (edit : TreeEdit) (there : Option PlainNode) (Here : PlainNode → Type 0) (before after : PlainTree)
+    (receipt : PlainReceipt) : Type 0 where
   pub here : IsSomeAnd there Here
   pub is_edit : IsEdit edit (slot_in there) before after receipt None
 
@@ -51,7 +53,8 @@ abbrev pub IsOverTreeLimit : TreeFault → PlainTree → Type 0
 IsOverTreeLimit TreeFault.NotHere tree = ⊥
 IsOverTreeLimit TreeFault.TooDeep tree = deepest_path < depth tree.items
 IsOverTreeLimit TreeFault.TooLarge tree = (depth tree.items ≤ deepest_path) × (most_slots < tree.live)
-IsOverTreeLimit TreeFault.SlotsUsedUp tree = (depth tree.items ≤ deepest_path) × (tree.live ≤ most_slots) × (most_drawn_slots < tree.drawn)
+IsOverTreeLimit TreeFault.SlotsUsedUp tree =
+    (depth tree.items ≤ deepest_path) × (tree.live ≤ most_slots) × (most_drawn_slots < tree.drawn)
 IsOverTreeLimit TreeFault.OutOfMemory tree = IsWithin tree
 
 -- an edit is refused at a node, if there is one, of which this has to hold: it doesn't, or the tree after the edit would be
@@ -68,7 +71,8 @@ IsHoleFor kind node = hole_of (sort_of kind) ≡ Some node.label.kind
 -- the assignment may be filled in at this node: it is a statement hole or an assignment, and the phrase is one
 abbrev pub TakesAssignment : PlainPhrase → PlainNode → Type 0
 TakesAssignment phrase node =
-    ((node.label.kind ≡ NodeKind.StatementHole) ⊎ (node.label.kind ≡ NodeKind.Assign)) × (category_of phrase ≡ Category.Assignment)
+    ((node.label.kind ≡ NodeKind.StatementHole) ⊎ (node.label.kind ≡ NodeKind.Assign))
+    × (category_of phrase ≡ Category.Assignment)
 
 -- a phrase may be set, or removed, at this node: the part is one of its stops, and takes this
 abbrev pub TakesAtStop : ℕ → Option PlainPhrase → PlainNode → Type 0

@@ -15,8 +15,10 @@ ItemsAreFound = (items : Forest) (k : ℕ) → node_at items (k ∷ []) ≡ slic
 
 -- fewer nodes stand in an item than there are
 abbrev pub ItemsHoldFewer : Type 0
-ItemsHoldFewer = (items : Forest) (k : ℕ) (item : PlainNode) → slice_get (nodes items) k ≡ Some item → count item.inner + 1 ≤ count items
+ItemsHoldFewer = (items : Forest) (k : ℕ) (item : PlainNode) → slice_get (nodes items) k ≡ Some item
+    → count item.inner + 1 ≤ count items
 
 -- an item of nodes that are what their rows ask for is a subtree
 abbrev pub ItemsAreSubtrees : Type 0
-ItemsAreSubtrees = (items : Forest) (k : ℕ) (item : PlainNode) → slice_get (nodes items) k ≡ Some item → AreNodes items → IsSubtree item
+ItemsAreSubtrees = (items : Forest) (k : ℕ) (item : PlainNode) → slice_get (nodes items) k ≡ Some item
+    → AreNodes items → IsSubtree item

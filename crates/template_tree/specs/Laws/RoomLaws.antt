@@ -27,7 +27,8 @@ CountsIgnoreRoom = (items : Forest) → count (roomless items) ≡ count items
 
 -- the node at a path is that node without room
 abbrev pub NodesIgnoreRoom : Type 0
-NodesIgnoreRoom = (items : Forest) (path : List ℕ) → node_at (roomless items) path ≡ option_map roomless_node (node_at items path)
+NodesIgnoreRoom =
+    (items : Forest) (path : List ℕ) → node_at (roomless items) path ≡ option_map roomless_node (node_at items path)
 
 -- the slot at a path is the same without room
 abbrev pub SlotsIgnoreRoom : Type 0
@@ -36,7 +37,8 @@ SlotsIgnoreRoom = (items : Forest) (path : List ℕ) → slot_at (roomless items
 -- the visible node at a path is that node without room
 abbrev pub VisibleNodesIgnoreRoom : Type 0
 VisibleNodesIgnoreRoom =
-    (items : Forest) (path : List ℕ) → visible_at (roomless items) path ≡ option_map roomless_node (visible_at items path)
+    (items : Forest) (path : List ℕ)
+    → visible_at (roomless items) path ≡ option_map roomless_node (visible_at items path)
 
 -- the cursor may stand without room where it may stand with it
 abbrev pub StandingIgnoresRoom : Type 0
@@ -56,13 +58,15 @@ ListingIgnoresRoom = (items : Forest) → Listing (roomless items) ≡ Listing i
 
 -- the roomless tree with the comment at a path turned is the turned tree without room
 abbrev pub TogglesIgnoreRoom : Type 0
-TogglesIgnoreRoom = (tree : PlainTree) (path : List ℕ) → with_toggled_at path (roomless_tree tree) ≡ roomless_tree (with_toggled_at path tree)
+TogglesIgnoreRoom = (tree : PlainTree) (path : List ℕ)
+    → with_toggled_at path (roomless_tree tree) ≡ roomless_tree (with_toggled_at path tree)
 
 -- whether a comment stands at a path, and is hidden once it is turned, is told as with room
 abbrev pub HidingIgnoresRoom : Type 0
 HidingIgnoresRoom =
     (items : Forest) (path : List ℕ)
-    → option_and_then hidden_after_toggle (node_at (roomless items) path) ≡ option_and_then hidden_after_toggle (node_at items path)
+    → option_and_then hidden_after_toggle (node_at (roomless items) path)
+    ≡ option_and_then hidden_after_toggle (node_at items path)
 
 -- nodes are as deep without room
 abbrev pub DepthsIgnoreRoom : Type 0

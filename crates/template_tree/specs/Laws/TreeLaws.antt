@@ -74,5 +74,6 @@ DropKeepsTree =
 abbrev pub UndoStaysPossible : Type 0
 UndoStaysPossible =
     (receipt : PlainReceipt) (back : Option PlainNode) (one other : PlainTree)
-    → roomless_tree one ≡ roomless_tree other → HasRoomBack receipt.undoing (list_room other.spare other.items receipt.path)
+    → roomless_tree one ≡ roomless_tree other
+    → HasRoomBack receipt.undoing (list_room other.spare other.items receipt.path)
     → CanUndo receipt back one → CanUndo receipt back other

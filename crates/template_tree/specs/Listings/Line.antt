@@ -38,7 +38,8 @@ parts_after (PlainSegment.part category) (part ∷ parts) = parts
 -- what is written for the segments of a line, with these parts in them
 abbrev pub segments_text : List PlainSegment → List (Option PlainPhrase) → List ℕ
 segments_text [] parts = []
-segments_text (segment ∷ segments) parts = segment_text segment parts ++ segments_text segments (parts_after segment parts)
+segments_text (segment ∷ segments) parts =
+    segment_text segment parts ++ segments_text segments (parts_after segment parts)
 
 -- a fixed line of a program, which the table of templates has as it stands, before a section or last in a node: one
 -- line, or none where it has none

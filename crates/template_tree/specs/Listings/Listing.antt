@@ -28,9 +28,11 @@ pub record Spells (items : Forest) (x : List ℕ) : Type 0 where
 -- begins with; the last one has no byte 10 behind it
 abbrev pub split_at_ends : (front : List ℕ) → List ℕ → List (List ℕ)
 split_at_ends front [] = front ∷ []
-split_at_ends front (byte ∷ rest) = if byte == 10 then front ∷ split_at_ends [] rest else split_at_ends (front ++ (byte ∷ [])) rest
+split_at_ends front (byte ∷ rest) =
+    if byte == 10 then front ∷ split_at_ends [] rest else split_at_ends (front ++ (byte ∷ [])) rest
 
 -- what the listing of a program is, split at each byte 10: its lines, and nothing behind the last line end
 abbrev pub ListingSplitsInLines : Type 0
 ListingSplitsInLines =
-    (items : Forest) → IsProgram items → split_at_ends [] (Listing items) ≡ map line_bytes (listing_lines items) ++ ([] ∷ [])
+    (items : Forest) → IsProgram items
+    → split_at_ends [] (Listing items) ≡ map line_bytes (listing_lines items) ++ ([] ∷ [])

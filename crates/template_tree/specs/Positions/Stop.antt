@@ -58,13 +58,15 @@ visible_nodes left k line (Forest.cons label inner rest) =
     map (inside k)
     (record { path = []; line = first; parts = part_stops label.kind }
     ∷ (if label.elided then [] else visible_nodes (row_of label.kind).sections 0 (first + 1) inner))
-    ++ visible_nodes (left_after here) (k + 1) (line + length (lines true 0 left (Forest.cons label inner Forest.nil))) rest
+    ++ visible_nodes (left_after here) (k + 1)
+    (line + length (lines true 0 left (Forest.cons label inner Forest.nil))) rest
 
 -- the stops of a visible node: its own, then its parts
 abbrev pub stops_of : VisibleNode → List VisibleStop
 stops_of node =
     record { stop = record { path = node.path; part = None }; line = node.line }
-    ∷ map (λ part. record { stop = record { path = node.path; part = Some part }; line = node.line }) (range_with_len 0 node.parts)
+    ∷ map (λ part. record { stop = record { path = node.path; part = Some part }; line = node.line })
+    (range_with_len 0 node.parts)
 
 -- the visible stops in listing order
 abbrev pub Stops : Forest → List VisibleStop
@@ -82,7 +84,8 @@ line_at items stop = option_map_or (λ listed. listed.line) (listed_stop (Stops 
 abbrev pub visible_below : PlainNode → List ℕ → Option PlainNode
 visible_below node [] = Some node
 visible_below node (k ∷ path) =
-    if node.label.elided then None else option_and_then (λ item. visible_below item path) (slice_get (nodes node.inner) k)
+    if node.label.elided then None
+    else option_and_then (λ item. visible_below item path) (slice_get (nodes node.inner) k)
 
 -- the visible node at the path: nothing on the way to it is elided
 abbrev pub visible_at : Forest → List ℕ → Option PlainNode

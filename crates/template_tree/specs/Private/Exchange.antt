@@ -34,5 +34,6 @@ abbrev pub MeetsLimit : Bool → (live drawn : ℕ) → TreeFault → Type 0
 MeetsLimit shallow live drawn TreeFault.NotHere = ⊥
 MeetsLimit shallow live drawn TreeFault.TooDeep = shallow ≡ false
 MeetsLimit shallow live drawn TreeFault.TooLarge = (shallow ≡ true) × (most_slots < live)
-MeetsLimit shallow live drawn TreeFault.SlotsUsedUp = (shallow ≡ true) × (live ≤ most_slots) × (most_drawn_slots < drawn)
+MeetsLimit shallow live drawn TreeFault.SlotsUsedUp =
+    (shallow ≡ true) × (live ≤ most_slots) × (most_drawn_slots < drawn)
 MeetsLimit shallow live drawn TreeFault.OutOfMemory = ⊥

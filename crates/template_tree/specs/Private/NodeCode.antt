@@ -23,7 +23,8 @@ label_code =
 -- the code of nodes in order: a tree of codes of labels
 abbrev pub forest_code_of : Forest → Gv
 forest_code_of Forest.nil = gnil
-forest_code_of (Forest.cons label inner rest) = gcons (label_code.code label) (gcons (forest_code_of inner) (forest_code_of rest))
+forest_code_of (Forest.cons label inner rest) =
+    gcons (label_code.code label) (gcons (forest_code_of inner) (forest_code_of rest))
 
 -- nodes in order with one code are the same
 pub forest_code_of_inj : (x y : Forest) → forest_code_of x ≡ forest_code_of y → x ≡ y

@@ -13,5 +13,7 @@ node_lines level node =
     ++ fixed_line level (row_of node.label.kind).last)
 
 -- where the rest of a node's lines is put now, the whole was put from the beginning on
-abbrev pub LacksRest : {Out : Type 0} (puts : Out → ℕ → Out → Type 0) (before : Out) (whole : List ℕ) (now : Out) (rest : List ℕ) → Type 0
-LacksRest {Out = Out} puts before whole now rest = (after : Out) → PutsAll puts now rest after → PutsAll puts before whole after
+abbrev pub LacksRest : {Out : Type 0} (puts : Out → ℕ → Out → Type 0) (before : Out) (whole : List ℕ) (now : Out)
+    (rest : List ℕ) → Type 0
+LacksRest {Out = Out} puts before whole now rest =
+    (after : Out) → PutsAll puts now rest after → PutsAll puts before whole after

@@ -41,7 +41,8 @@ undoing_from (Some node) side part taken = with_node_code node side
 undoing_from None side part taken = without_node part taken
 
 -- the undoing of a receipt is made again of its pieces
-pub undoing_back : (u : PlainUndoing) → undoing_from (pieces_of u).0 (pieces_of u).1.0 (pieces_of u).1.1.0 (pieces_of u).1.1.1 ≡ u
+pub undoing_back : (u : PlainUndoing)
+    → undoing_from (pieces_of u).0 (pieces_of u).1.0 (pieces_of u).1.1.0 (pieces_of u).1.1.1 ≡ u
 undoing_back (PlainUndoing.put node) = refl
 undoing_back PlainUndoing.put_back = refl
 undoing_back (PlainUndoing.set_part part place) = refl

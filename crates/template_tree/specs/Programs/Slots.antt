@@ -31,4 +31,5 @@ AllBelow number (Forest.cons label inner rest) = (label.slot < number) × AllBel
 abbrev pub with_slots_from : ℕ → Forest → Forest
 with_slots_from first Forest.nil = Forest.nil
 with_slots_from first (Forest.cons label inner rest) =
-    Forest.cons (record label { slot = first }) (with_slots_from (first + 1) inner) (with_slots_from (first + 1 + count inner) rest)
+    Forest.cons (record label { slot = first }) (with_slots_from (first + 1) inner)
+    (with_slots_from (first + 1 + count inner) rest)

@@ -37,12 +37,14 @@ judged_item earlier item effective =
 -- these items are what the declaration in the slot declares, if it is one of the nodes
 abbrev pub AreDeclaredIn : (inner : Forest) → (slot : ℕ) → List Item → Type 0
 AreDeclaredIn inner slot items =
-    (rest : List Declared) × (all_declared inner ≡ declared_before inner slot ++ (with_type (type_in inner slot) items ++ rest))
+    (rest : List Declared)
+    × (all_declared inner ≡ declared_before inner slot ++ (with_type (type_in inner slot) items ++ rest))
 
 -- where the phrase is a declared list, its items stand among the declared items of a procedure as those of the
 -- declaration in the slot, if that is one of the nodes
 abbrev pub IsListIn : (inner : Forest) → (slot : ℕ) → PlainPhrase → Type 0
-IsListIn inner slot phrase = (items : List Item) → phrase ≡ PlainPhrase.declared_list items → AreDeclaredIn inner slot items
+IsListIn inner slot phrase =
+    (items : List Item) → phrase ≡ PlainPhrase.declared_list items → AreDeclaredIn inner slot items
 
 -- the table has, of the declared items of a procedure, those that have the names of these
 abbrev pub KnowsListed : PlainDecls → (procedure : PlainNode) → List Item → Type 0

@@ -20,7 +20,8 @@ bone_code =
 -- a layout's nodes in order as a tree of labels
 abbrev pub bones_code_of : PlainLayout → Gv
 bones_code_of PlainLayout.nil = gnil
-bones_code_of (PlainLayout.cons bone inner rest) = gcons (bone_code.code bone) (gcons (bones_code_of inner) (bones_code_of rest))
+bones_code_of (PlainLayout.cons bone inner rest) =
+    gcons (bone_code.code bone) (gcons (bones_code_of inner) (bones_code_of rest))
 
 -- the tree of labels of a layout's nodes gives them back
 pub bones_code_of_inj : (x y : PlainLayout) → bones_code_of x ≡ bones_code_of y → x ≡ y

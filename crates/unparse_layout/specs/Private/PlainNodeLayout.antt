@@ -33,7 +33,8 @@ node_layouts_bones (node_layout ∷ rest) = ap (λ items. node_layout ∷ items)
 -- as plain data, nodes of a layout in order, made a list and that nodes in order again, are those nodes
 pub bones_node_layouts : (items : PlainLayout) → bones (node_layouts items) ≡ items
 bones_node_layouts PlainLayout.nil = refl
-bones_node_layouts (PlainLayout.cons bone inner rest) = ap (λ items. PlainLayout.cons bone inner items) (bones_node_layouts rest)
+bones_node_layouts (PlainLayout.cons bone inner rest) =
+    ap (λ items. PlainLayout.cons bone inner items) (bones_node_layouts rest)
 
 -- the node of a layout for a node of the tree, before which a line of the table stands where it is led
 abbrev pub node_layout_of : Bool → PlainNode → PlainNodeLayout
@@ -47,4 +48,5 @@ node_layout_of led node =
 
 -- a node of a layout with an item behind the nodes inside it
 abbrev pub with_last_node_layout : PlainNodeLayout → PlainNodeLayout → PlainNodeLayout
-with_last_node_layout node_layout item = record node_layout { inner = bones (node_layouts node_layout.inner ++ (item ∷ [])) }
+with_last_node_layout node_layout item =
+    record node_layout { inner = bones (node_layouts node_layout.inner ++ (item ∷ [])) }

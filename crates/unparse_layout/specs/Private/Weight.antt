@@ -19,6 +19,7 @@ abbrev pub list_weight : PlainNodeLayouts → ℕ
 list_weight list = suc (bones_weight (bones list.items))
 
 -- no node of a layout is heavier than the list in which it stands
-pub most_le_weight : (items : List PlainNodeLayout) → most (λ node_layout. weight node_layout + 1) items ≤ bones_weight (bones items) + 1
+pub most_le_weight : (items : List PlainNodeLayout)
+    → most (λ node_layout. weight node_layout + 1) items ≤ bones_weight (bones items) + 1
 most_le_weight [] = omega arith
 most_le_weight (node_layout ∷ rest) = omega (arith, most_le_weight rest)
