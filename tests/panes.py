@@ -116,18 +116,20 @@ def is_gone(process):
 # ---- a terminal
 
 class Terminal:
-    """A pane of tmux with a shell in it that starts bin/synth with these words, behind these other lines."""
+    """A pane of tmux with a shell in it that starts bin/synth with these words, behind these other lines, in the folder of the
+    pane or in another one."""
 
     server = None
 
-    def __init__(self, room, name, cols, rows, words=(), synth=SYNTH, before=()):
+    def __init__(self, room, name, cols, rows, words=(), synth=SYNTH, before=(), within=None):
         self.cols, self.rows = cols, rows
         self.folder = f"{room}/{name}"
         os.makedirs(self.folder)
+        command = f"{shlex.quote(synth)} {' '.join(words)}"
         write(f"{self.folder}/start", "\n".join([
             "stty -g >before",
             *before,
-            f"{shlex.quote(synth)} {' '.join(words)}",
+            f"(cd {shlex.quote(within)} && exec {command})" if within else command,
             "echo $? >status",
             "stty -g >after",
             "echo >finished",
