@@ -1,4 +1,4 @@
-//! The files that runs find, and the writes of their output that are to fail.
+//! The files that runs of saved programs find, and the writes of their output that are to fail.
 
 use case_script::{Told, numbers_of};
 use std::alloc::Global;
@@ -22,7 +22,7 @@ impl SavedFiles {
         }
     }
 
-    /// There are no files again; the calls on them of these numbers fail.
+    /// Runs of saved programs find no files again; the calls on the files of these numbers fail.
     pub(crate) fn renew(&mut self, fails: &[Vec<u8>], told: &mut Told) -> Option<()> {
         let alloc = told.alloc();
         self.files = MemFiles::new(alloc, numbers_of(alloc, fails)?);
@@ -43,13 +43,13 @@ impl SavedFiles {
         Some(MemSink::new(alloc, fails))
     }
 
-    /// Puts a file of these bytes among those that runs find.
+    /// Puts a file of these bytes among those that runs of saved programs find.
     pub(crate) fn put(&mut self, name: &[u8], bytes: &[u8], told: &mut Told) {
         let put = self.try_put(name, bytes);
         told.value_line(&put);
     }
 
-    /// Puts a file of these bytes there, if no call on the files fails.
+    /// Puts a file of these bytes among those that runs of saved programs find, if no call on the files fails.
     fn try_put(&mut self, name: &[u8], bytes: &[u8]) -> Result<(), FilesFault> {
         self.files.begin(name)?;
         if !bytes.is_empty() {

@@ -28,7 +28,7 @@ pub(crate) fn play(files: &mut SavedFiles, words: &[Vec<u8>], told: &mut Told) -
     Some(())
 }
 
-/// The words of a run as texts, if they are texts.
+/// The words with which a saved program is run, as texts, if they are texts.
 fn texts_of(alloc: Global, words: &[Vec<u8>]) -> Option<Vec<String>> {
     let mut texts = Vec::new(alloc);
     for word in words {
@@ -37,7 +37,7 @@ fn texts_of(alloc: Global, words: &[Vec<u8>]) -> Option<Vec<String>> {
     Some(texts)
 }
 
-/// A word of a run as a text, if it is one.
+/// A word with which a saved program is run, as a text, if it is one.
 fn text_of(alloc: Global, word: &[u8]) -> Option<String> {
     let text = std::str::from_utf8(word).ok()?;
     String::from_str(alloc, text).ok()
@@ -51,7 +51,7 @@ fn tell_report(report: &Report, told: &mut Told) {
     told.put(b'\n');
 }
 
-/// Tells what a run wrote, or of more than 200 bytes how many.
+/// Tells what the run of a saved program wrote, or of more than 200 bytes how many.
 fn tell_output(output: &MemSink, told: &mut Told) {
     let bytes = output.bytes();
     if bytes.len() > MOST_SHOWN {

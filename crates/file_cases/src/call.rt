@@ -29,8 +29,8 @@ pub(crate) enum TextCall {
     Save,
 }
 
-/// What the word that a case begins with says of the lines by which it makes a text longer: they stand all at
-/// level 1, each a level deeper than the one before, from level 1 on, or each a level higher, down to level 1.
+/// Which of the words that make a text longer a case begins with: its lines stand all at level 1, each a level
+/// deeper than the one before, from level 1 on, or each a level higher, down to level 1.
 #[derive(Clone, Copy)]
 pub(crate) enum Way {
     Level,

@@ -183,7 +183,7 @@ fn tell_slots(loaded: Result<u32, FileRefusal>, told: &mut Told) -> Option<()> {
     Some(())
 }
 
-/// Tells bytes that a call on files gave or asks for, or of more than 200 how many they are.
+/// Tells the bytes that one of the desk's files holds, or of more than 200 how many they are.
 pub(crate) fn tell_bytes(bytes: &[u8], told: &mut Told) {
     match bytes.len() {
         0..=200 => told.word_line(bytes),

@@ -108,7 +108,8 @@ fn play_words<'a, R: Files<File = File> + AllocGlobal>(
     play(rt, scene, meaning(&CALLS, word.as_slice())?, arguments)
 }
 
-/// Makes the call of a case of files with these words behind its name, if it takes them.
+/// Plays a case of the script of files by the call that it names, with these words behind the name, if that
+/// takes them.
 fn play<'a, R: Files<File = File> + AllocGlobal>(
     rt: &'a R,
     scene: &mut Scene<'a, R>,
@@ -134,7 +135,8 @@ fn play<'a, R: Files<File = File> + AllocGlobal>(
     }
 }
 
-/// Makes a call of a case of files on the text, which takes it.
+/// Plays a case of the script of files that takes its lines of text: a listing read or damaged, or a program
+/// saved.
 fn play_text<R: Files<File = File> + AllocGlobal>(
     scene: &mut Scene<'_, R>,
     call: TextCall,

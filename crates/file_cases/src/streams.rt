@@ -62,12 +62,12 @@ fn fails_of(alloc: Global, word: &[u8]) -> Option<Vec<u64>> {
     }
 }
 
-/// Reads a source over a stream whose call of this number fails.
+/// Reads pieces of these sizes from a source whose stream fails in its call of this number.
 fn read_stumbling(failing: u32, sizes: &[Vec<u8>], told: &mut Told) -> Option<()> {
     reads(&mut StdSource::new(Stumbling::new(failing)), sizes, told)
 }
 
-/// Reads from a file of the system, if it could be opened.
+/// Reads a source over a file of the system, if that could be opened.
 fn read_file(file: io::Result<File>, sizes: &[Vec<u8>], told: &mut Told) -> Option<()> {
     match file {
         Ok(file) => reads(&mut StdSource::new(file), sizes, told),
@@ -116,13 +116,13 @@ fn write_memory(fails: &[u8], pieces: &[Vec<u8>], told: &mut Told) -> Option<()>
     written
 }
 
-/// Writes to a stream that takes as many bytes as the room has.
+/// Writes to a sink over a stream that takes as many bytes as the room has.
 fn write_slice(room: &[u8], pieces: &[Vec<u8>], told: &mut Told) -> Option<()> {
     let mut room = room.to_vec(told.alloc()).ok()?;
     writes(&mut StdSink::new(room.as_mut_slice()), pieces, told)
 }
 
-/// Writes to a stream whose call of this number fails.
+/// Writes these pieces to a sink whose stream fails in its call of this number.
 fn write_stumbling(failing: u32, pieces: &[Vec<u8>], told: &mut Told) -> Option<()> {
     writes(&mut StdSink::new(Stumbling::new(failing)), pieces, told)
 }

@@ -7,7 +7,7 @@ use key_journal::{Disk, DiskCall, MemDisk};
 use std::alloc::Global;
 use synth_outside::MemSource;
 
-/// What is found of crashes.
+/// What cases of the journal find of a crash: the keys that are recovered after it.
 #[derive(Drop)]
 pub(crate) struct Crash {
     alloc: Global,
@@ -21,7 +21,7 @@ pub(crate) struct Crash {
 }
 
 impl Crash {
-    /// Nothing found yet of crashes.
+    /// For cases of the journal, no keys yet that were recovered after a crash.
     pub(crate) fn new(alloc: Global) -> Self {
         Crash {
             alloc,
@@ -70,9 +70,9 @@ impl Crash {
         session(source, empty_disk(self.alloc), &mut self.given)
     }
 
-    /// After how many calls of the session over the journal so many keys were given, and no more, which are
-    /// those to be recovered after a crash. A session with one key more goes on behind one with fewer, so while
-    /// it has done fewer calls than one with all the keys up to the next, so many were given.
+    /// After how many calls of the session that a crash cuts off so many keys were given, and no more, which
+    /// are those to be recovered after the crash. A session with one key more goes on behind one with fewer, so
+    /// while it has done fewer calls than one with all the keys up to the next, so many were given.
     fn end_of(&mut self, keys: &[u8], given: usize) -> Option<usize> {
         let calls = self.whole.done().len();
         if given >= keys.len() {
@@ -129,7 +129,7 @@ fn recover(alloc: Global, image: &[u8], given: &mut Vec<u8>) -> Option<()> {
     Some(())
 }
 
-/// The disk for a session that recovers what a crash of a case left.
+/// The disk that a crash left in a case, from which a session recovers its keys.
 fn disk_of(alloc: Global, image: &[u8]) -> Option<MemDisk> {
     let mut disk = MemDisk::new(alloc, Vec::new(alloc));
     disk.write_at(0, image).ok()?;

@@ -35,7 +35,7 @@ fn tell_session(rt: &HostRuntime, keys: &[u8], told: &mut Told) -> Option<()> {
     Some(())
 }
 
-/// Tells the last answer of a session over the journal's file, and the keys that it gave.
+/// Tells the last answer of a session over the journal in its file of the system, and the keys that it gave.
 fn tell_keys(source: MemSource, disk: StdDisk, told: &mut Told) {
     match JournalKeys::open(source, disk) {
         Ok(mut journal) => {

@@ -60,7 +60,8 @@ impl Images {
         self.all.push(image).ok()
     }
 
-    /// Writes to the disk of the images, at a place within it or at its end.
+    /// Writes to the disk of a case of the journal, of which images are found, at a place within it or at its
+    /// end.
     fn write(&mut self, at: u64, piece: &[u8]) -> Option<()> {
         if at <= self.disk.bytes().len() as u64 {
             self.disk.write_at(at, piece).ok()?;

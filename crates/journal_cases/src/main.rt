@@ -23,8 +23,8 @@ fn main(rt: HostRuntime) -> io::Result<()> {
     play_script(&rt, &mut scene)
 }
 
-/// What a script of cases of the journal of keys holds from line to line: a disk or a journal, what is found of
-/// crashes, and the answer to the case at hand.
+/// All that a script of cases of the journal of keys is played with: the disk or journal that is held, what is
+/// found of crashes, and the answer to the case at hand.
 #[derive(Drop)]
 struct Scene {
     held: Held,
@@ -33,7 +33,8 @@ struct Scene {
 }
 
 impl Scene {
-    /// The scene at the beginning of a script of the journal: an empty disk.
+    /// What the script of cases of the journal of keys begins with: an empty disk, nothing found of crashes,
+    /// and no answer.
     fn new(alloc: Global) -> Self {
         Scene {
             held: Held::new(alloc),

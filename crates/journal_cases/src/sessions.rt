@@ -8,7 +8,7 @@ use synth_outside::{MemSource, Source, SourceFault};
 /// The most keys that are read in one go from a journal.
 const MOST_KEYS: usize = 1000;
 
-/// A source of these keys for a session of a case, of which no call fails.
+/// A source of the new keys of a session over a journal, of which no call fails.
 pub(crate) fn source_of(alloc: Global, keys: &[u8]) -> Option<MemSource> {
     let keys = keys.to_vec(alloc).ok()?;
     Some(MemSource::new(keys, Vec::new(alloc)))

@@ -38,8 +38,9 @@ fn is_cut(bytes: &[u8], most: usize, failing: u32, keys: &[u8], told: &mut Told)
     Some(disk.file().has_failed())
 }
 
-/// Plays a session over the file, of which a call may fail, with the new keys of this source, up to an answer
-/// that isn't one: tells that answer and the keys that it gave, and hands back the disk as it stands.
+/// Plays a session of a journal over the file of which one call fails, if it is made, with the new keys of this
+/// source, up to an answer that isn't one: tells that answer and the keys that it gave, and hands back the disk
+/// as it stands.
 fn tell_session(source: MemSource, file: Stumbling, told: &mut Told) -> FileDisk<Stumbling> {
     match JournalKeys::open(source, FileDisk::new(file)) {
         Ok(mut journal) => {
@@ -72,7 +73,8 @@ struct Stumbling {
 }
 
 impl Stumbling {
-    /// A file with these bytes, which gives so many a read, and whose call of this number, from 1, fails.
+    /// A file for a journal, with these bytes, which gives so many a read, and whose call of this number, from
+    /// 1, fails.
     fn new(alloc: Global, bytes: &[u8], most: usize, failing: u32) -> Option<Self> {
         let mut disk = MemDisk::new(alloc, Vec::new(alloc));
         disk.write_at(0, bytes).ok()?;
@@ -89,12 +91,12 @@ impl Stumbling {
         self.disk.bytes()
     }
 
-    /// Whether the call that is to fail was made.
+    /// Whether the call of the journal's file that is to fail was made.
     fn has_failed(&self) -> bool {
         self.calls >= self.failing
     }
 
-    /// Counts one more call of the file of which one alone fails.
+    /// Counts one more call of the file that a journal stands on, which fails where its turn has come.
     fn step(&mut self) -> io::Result<()> {
         self.calls = self.calls.saturating_add(1);
         if self.calls == self.failing {

@@ -1,4 +1,4 @@
-//! The calls that a script may name.
+//! The calls on phrases and words that a script may name.
 use crate::base_cases::{ByteClass, put_class, put_counts, put_name, put_text_value};
 use crate::command_cases::{
     put_command, put_command_word, put_file_name, put_message, put_no_message,
@@ -70,7 +70,7 @@ pub static CALLS: [(&[u8], Call); 27] = [
     (b"no_message", Call::NoMessage),
 ];
 
-/// Makes this one of the calls that a script may name, with these arguments, and puts what it answers, if it
+/// Makes this one of the calls on phrases and words, with these arguments, and puts what it answers, if it
 /// takes such arguments.
 pub fn play(call: Call, arguments: &[Vec<u8>], told: &mut Told) -> Option<()> {
     match (call, arguments) {
@@ -87,7 +87,8 @@ pub fn play(call: Call, arguments: &[Vec<u8>], told: &mut Told) -> Option<()> {
     }
 }
 
-/// Makes one of the calls that a script may name, if it takes one argument.
+/// Makes this one of the calls on phrases and words that a script may name, and puts what it answers, if it
+/// takes one argument.
 fn play_one(call: Call, argument: &[u8], told: &mut Told) -> Option<()> {
     match call {
         Call::ReadName => put_name(argument, told),

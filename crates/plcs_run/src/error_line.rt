@@ -1,4 +1,4 @@
-//! The line that is written to standard error.
+//! The line for standard error, into which bytes are put.
 
 use arrayvec::ArrayVec;
 use plcs_base::ByteOut;

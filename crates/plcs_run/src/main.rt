@@ -26,7 +26,7 @@ fn run(rt: &HostRuntime) -> Report {
     run_program(alloc, words.as_slice(), &mut output, &mut files, &mut work)
 }
 
-/// Tells on standard error how the run ended, unless it ended by itself.
+/// Tells on standard error, in one line, how the run of the saved program ended, where it didn't end by itself.
 fn tell(rt: &HostRuntime, report: &Report) {
     if report.ending == Ending::Ended {
         return;

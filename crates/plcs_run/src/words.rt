@@ -1,4 +1,4 @@
-//! The words that the system hands to the command.
+//! The words that the system hands to the command that runs saved programs.
 
 ghost use Rattle.std.specs.Prelude.{◌≡◌, drop, IfErr, IfOk, IsOkAnd};
 ghost use Rattle.std.specs.Vec.Iter.{into_iter_items};
@@ -9,8 +9,9 @@ use std::env::Args;
 use std::io;
 use std::io::{Error, ErrorKind};
 
-/// The words that follow the command's name, of all that the system gave: each as it is, and in order. It is
-/// `NoMemory` where memory ran out. Where one isn't text the system gave none, and it is `BadWords`.
+/// The words that follow the name of the command that runs saved programs, of all that the system gave: each as
+/// it is, and in order. It is `NoMemory` where memory ran out. Where one isn't text the system gave none, and
+/// it is `BadWords`.
 pub fn words_of(alloc: Global, given: io::Result<Args>) -> Result<Vec<String>, Ending>
     ensures { IfOk result (λ words. IsOkAnd given (λ all. words.items ≡ drop 1 (into_iter_items all))) }
 {
@@ -20,7 +21,8 @@ pub fn words_of(alloc: Global, given: io::Result<Args>) -> Result<Vec<String>, E
     }
 }
 
-/// The words after the first, which is the command's name; it is `NoMemory` where memory runs out over them.
+/// The words that the command for saved programs is handed, without the first, its name; it is `NoMemory` where
+/// memory runs out over them.
 fn words_after_first(alloc: Global, mut all: Args) -> Result<Vec<String>, Ending>
     ensures all { IfOk result (λ words. words.items ≡ drop 1 (into_iter_items all)) }
     ensures wanted { IfErr result (λ ending. ending ≡ Ending.NoMemory) }
@@ -33,7 +35,7 @@ fn words_after_first(alloc: Global, mut all: Args) -> Result<Vec<String>, Ending
     Ok(words)
 }
 
-/// How the command ends to which the system gives no words.
+/// How the command ends where the system hands it no words, for this error.
 fn ending_of(error: &Error) -> Ending {
     match error.kind() {
         ErrorKind::OutOfMemory => Ending::NoMemory,

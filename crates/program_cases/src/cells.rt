@@ -3,7 +3,8 @@
 use case_script::Told;
 use plcs_base::ByteOut;
 
-/// Tells the cells of a row of this number without the blanks behind it, where something is left.
+/// Tells the number of a row of the screen and its cells as text, without the blanks at its end, where
+/// something is left.
 pub fn tell_row(number: u16, cells: &[u16], told: &mut Told) {
     let shown = visible(cells);
     if !shown.is_empty() {
@@ -14,7 +15,7 @@ pub fn tell_row(number: u16, cells: &[u16], told: &mut Told) {
     }
 }
 
-/// The cells of a row that are told: up to the last that isn't a blank in default image.
+/// The cells of a row of the screen that are told as text: up to the last that isn't a blank in default image.
 fn visible(cells: &[u16]) -> &[u16] {
     let mut end = 0;
     for (col, cell) in cells.iter().enumerate() {
@@ -36,7 +37,7 @@ pub fn tell_cells(cells: &[u16], told: &mut Told) {
     tell_stretches(cells, told);
 }
 
-/// Tells each stretch of a row's cells in negative image.
+/// Tells behind the text of cells of the screen each stretch of them in negative image.
 fn tell_stretches(cells: &[u16], told: &mut Told) {
     let mut start = None;
     for (col, cell) in cells.iter().enumerate() {

@@ -39,8 +39,8 @@ impl Held {
         })
     }
 
-    /// Holds, from this case of the script to the next ones, a mark by hand of the phrase in the slot and the
-    /// part that are named, or none where nothing is.
+    /// Puts into what the script's cases hold the one phrase that is marked, in the slot and the part that are
+    /// named, or none where nothing is named.
     pub fn mark(&mut self, words: &[Vec<u8>], told: &mut Told) -> Option<()>
         requires { IsTree self.old.tree }
         ensures { IsTree self.new.tree }

@@ -1,12 +1,12 @@
 //! Lines of the screen, and the lines of stops.
 ghost use Rattle.std.specs.Prelude.{};
-ghost use Rattle.decl_table.specs.Agreement.{IsDeclsOf};
 ghost use Rattle.template_tree.specs.Programs.PlainTree.{roomless_tree};
 ghost use Rattle.template_tree.specs.Positions.Stop.{IsStop, plain_stop};
 ghost use Rattle.template_tree.specs.Programs.Tree.{IsTree};
 ghost use Rattle.unparse_layout.specs.Agreement.{IsLayoutOf};
 
 use crate::cells::tell_cells;
+use crate::marks::marks_of;
 use crate::one_mark::OneMark;
 use crate::words::number_at;
 use case_script::Told;
@@ -15,7 +15,6 @@ use decl_table::Decls;
 use plcs_base::{ByteOut, Counts, Marked, PhraseAt, Slot};
 use std::alloc::Global;
 use template_tree::{Stop, Tree};
-use type_marks::Marks;
 use unparse_layout::{Layout, Line};
 
 /// Tells the lines of the screen from this number to that one, or all of them and that none comes behind them.
@@ -72,14 +71,6 @@ fn tell_marked_lines(
     let marks = marks_of(alloc, tree, &decls)?;
     tell_lines(layout, tree, &marks, first, last, told);
     Some(())
-}
-
-/// The marks of the program under which its lines are told, of which this is the table.
-pub fn marks_of(alloc: Global, tree: &Tree, decls: &Decls) -> Option<Marks<Counts>>
-    requires tree { IsTree tree.now }
-    requires decls { IsDeclsOf decls.now tree.now.items }
-{
-    Marks::new(alloc, tree, decls, &mut Counts::default()).ok()
 }
 
 /// Tells the lines of the screen under these marks, and what was counted.

@@ -97,7 +97,8 @@ fn play_words(alloc: Global, held: &mut Held, words: &[Vec<u8>], told: &mut Told
     play(alloc, held, meaning(&CASES, name.as_slice())?, words, told)
 }
 
-/// Plays one case of the script with these words behind its name, if it takes them.
+/// Plays this one of the script's cases, on what is derived from a program or on sums, with these words behind
+/// its name, if it takes them.
 fn play(
     alloc: Global,
     held: &mut Held,

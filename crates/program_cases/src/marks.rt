@@ -169,3 +169,11 @@ fn tell_mark(at: PhraseAt, phrase: &Phrase, mark: Option<Option<MarkKind>>, told
     show(phrase, &mut text);
     told.word_line(text.as_bytes());
 }
+
+/// The marks of all phrases of the program of which this is the table, as its lines and screens show them.
+pub fn marks_of(alloc: Global, tree: &Tree, decls: &Decls) -> Option<Marks<Counts>>
+    requires tree { IsTree tree.now }
+    requires decls { IsDeclsOf decls.now tree.now.items }
+{
+    Marks::new(alloc, tree, decls, &mut Counts::default()).ok()
+}

@@ -107,7 +107,7 @@ fn is_shown(alloc: Global, old: &Grid, new: &Grid, terminal: &mut Terminal) -> b
     painted && has_cells(terminal, new)
 }
 
-/// Whether the terminal on which a view was painted has the grid's cells and cursor.
+/// Whether the terminal on which a random view was painted has the cells and the cursor of the view's grid.
 fn has_cells(terminal: &Terminal, grid: &Grid) -> bool
     requires { terminal.now.rows ≡ grid.now.rows }
 {

@@ -1,4 +1,4 @@
-//! Phrases and their texts.
+//! The phrases whose texts cases on a program give.
 ghost use Rattle.std.specs.Prelude.{IfSome, Some};
 ghost use Rattle.plcs_grammar.specs.PlainPhrase.{plain_phrase};
 ghost use Rattle.template_tree.specs.Programs.Part.{IsPhrasePlace};

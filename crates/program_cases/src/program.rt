@@ -11,7 +11,8 @@ use std::alloc::{AllocError, Global};
 use template_tree::{Path, Tree};
 use unparse_layout::Layout;
 
-/// Reads the lines as the program from which cases derive what they tell, in place of the one before.
+/// Reads the lines as the program from which cases derive what they tell, in place of the one that was read
+/// before.
 pub fn read_program(alloc: Global, tree: &mut Tree, text: &[Vec<u8>], told: &mut Told) -> Option<()>
     requires { IsTree tree.old }
     ensures { IsTree tree.new }
@@ -21,7 +22,8 @@ pub fn read_program(alloc: Global, tree: &mut Tree, text: &[Vec<u8>], told: &mut
     Some(())
 }
 
-/// The lines of text of a program that is read, as one text, each with its end.
+/// The lines that are read as the program from which cases derive what they tell, as one text, each with its
+/// end.
 fn listing_of(alloc: Global, text: &[Vec<u8>]) -> Result<Vec<u8>, AllocError> {
     let mut listing = Vec::new(alloc);
     for line in text {
@@ -31,7 +33,8 @@ fn listing_of(alloc: Global, text: &[Vec<u8>]) -> Result<Vec<u8>, AllocError> {
     Ok(listing)
 }
 
-/// Makes the program of the cases that of the listing, unless it is refused.
+/// Reads the listing as the program that cases edit and from which they derive what they tell, unless it is
+/// refused.
 fn take_listing(alloc: Global, tree: &mut Tree, listing: &[u8], told: &mut Told)
     requires { IsTree tree.old }
     ensures { IsTree tree.new }
@@ -46,7 +49,7 @@ fn take_listing(alloc: Global, tree: &mut Tree, listing: &[u8], told: &mut Told)
     }
 }
 
-/// In a case of edits, takes the node in the slot out of the program that was read.
+/// Edits the program that was read, from which cases derive what they tell: takes the node in the slot out.
 pub fn take(alloc: Global, tree: &mut Tree, words: &[Vec<u8>], told: &mut Told) -> Option<()>
     requires { IsTree tree.old }
     ensures { IsTree tree.new }
@@ -59,8 +62,8 @@ pub fn take(alloc: Global, tree: &mut Tree, words: &[Vec<u8>], told: &mut Told) 
     Some(())
 }
 
-/// The path to the node in the slot of the program that was read, or one that leads nowhere where the slot isn't
-/// live.
+/// The path in the program that was read, from which cases derive what they tell, to the node in the slot, or
+/// one that leads nowhere where the slot isn't live.
 pub fn path_to(tree: &Tree, slot: u32) -> Path
     requires { IsTree tree.now }
 {

@@ -4,7 +4,7 @@ ghost use Rattle.template_tree.specs.Programs.Tree.{IsTree};
 ghost use Rattle.screen_window.specs.declared.limit.TheConstants.{FEWEST_COLS, FEWEST_ROWS, MOST_COLS, MOST_ROWS};
 
 use crate::cells::tell_row;
-use crate::lines::marks_of;
+use crate::marks::marks_of;
 use crate::one_mark::OneMark;
 use crate::program::path_to;
 use crate::view_words::{ViewWords, view_words};

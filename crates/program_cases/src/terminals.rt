@@ -38,8 +38,8 @@ fn take_parted(terminal: &mut Terminal, bytes: &[u8])
     }
 }
 
-/// Tells what a terminal made of bytes, its rows that aren't blank and the place of its cursor, or that the
-/// other one made something else of them.
+/// Tells what a terminal made of bytes that it took whole, its rows that aren't blank and the place of its
+/// cursor, or that the other one, which took them byte by byte, made something else of them.
 fn tell_terminals(rows: u16, one: &Terminal, other: &Terminal, told: &mut Told)
     requires one { one.now.rows ≡ rows }
     requires other { other.now.rows ≡ rows }

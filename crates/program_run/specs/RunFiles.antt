@@ -48,7 +48,7 @@ pub record IsInputRefused (asked : PlainAskedRun) (stored : Option FileMap) (ref
 
 -- ---- what the calls on files did
 
--- a run ends so since a call on the files failed
+-- the file of a run's program or of its input is refused since a call on the files failed, and the run ends so
 abbrev pub IsFileFault : Ending → Type 0
 IsFileFault ending =
     (ending ≡ Ending.ProgramRefused FileRefusal.FileFault) ⊎ (ending ≡ Ending.InputRefused FileRefusal.FileFault)

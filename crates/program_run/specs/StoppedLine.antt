@@ -37,7 +37,8 @@ is_at_last_line kind point = point == 1 && (is_outermost (row_of kind).sort && i
 abbrev pub inner_line_count : Label → Forest → ℕ
 inner_line_count label inner = length (lines false 0 (row_of label.kind).sections inner)
 
--- how many lines of a listing a node has: its first one, those inside it, and its last one, if it has one
+-- how many lines of a listing a node has: its first one, those inside it, and its last one, if it has one; what is
+-- claimed of a report's line, at which a run stands, counts by it
 abbrev pub node_line_count : Label → Forest → ℕ
 node_line_count label inner = 1 + (inner_line_count label inner + length (fixed_line 0 (row_of label.kind).last))
 

@@ -87,7 +87,7 @@ fn word_named<'a>(alloc: Global, name: &'a str) -> Arg<'a>
     Arg::new(alloc, name)
 }
 
-/// What clap's matches give of the command's words.
+/// What clap's matches give of the words of the command that runs a saved program.
 fn given_by<'a>(matches: &ArgMatches<'a>) -> GivenWords<'a>
     ensures { plain_given_words result ≡ words_of_matches (found_of matches.now) }
 {

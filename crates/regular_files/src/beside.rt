@@ -54,8 +54,8 @@ impl Beside {
     }
 }
 
-/// The path of the file to which the name of a regular file leads: another one where it is a symbolic link, which
-/// leads to some file.
+/// The path of the regular file beside which a new content is written: another path than its name where that is
+/// a symbolic link, which leads to some file.
 fn target_of<R: rt::Files>(rt: &R, alloc: Global, name: &str) -> io::Result<String> {
     if is_link(rt, name) {
         Ok(rt.canonicalize(alloc, name)?.into_string())
@@ -64,7 +64,7 @@ fn target_of<R: rt::Files>(rt: &R, alloc: Global, name: &str) -> io::Result<Stri
     }
 }
 
-/// Whether a symbolic link has the name.
+/// Whether the name of the file beside which a new content is written is that of a symbolic link.
 fn is_link<R: rt::Files>(rt: &R, name: &str) -> bool {
     match fs::symlink_metadata(rt, name) {
         Ok(metadata) => metadata.is_symlink(),
@@ -98,7 +98,8 @@ fn keep_mode(file: &File, mode: Option<Permissions>) -> io::Result<()> {
     }
 }
 
-/// The name of a regular file as the text that a path of the system is.
+/// The name of a regular file that is read, or beside which a new content is written, as the text that a path of
+/// the system is.
 pub fn text_of(name: &[u8]) -> io::Result<&str> {
     match str::from_utf8(name) {
         Ok(text) => Ok(text),

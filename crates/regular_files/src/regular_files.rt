@@ -126,7 +126,7 @@ fn read_once<R: Read>(reader: &mut R, faults: &mut u64, buf: &mut [u8]) -> Resul
     }
 }
 
-/// Writes once to a regular file, whose fault is counted; that it takes no byte is one.
+/// Writes once to one of the regular files of the current folder, and counts a fault; that no byte is taken is one.
 fn write_once<W: Write>(writer: &mut W, faults: &mut u64, piece: &[u8]) -> Result<usize, FilesFault>
     requires { 0 < length piece.now }
     ensures bytes { TakesBytes (W.contents writer.old) (W.contents writer.new) piece.now result }

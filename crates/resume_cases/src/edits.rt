@@ -95,7 +95,7 @@ fn change(alloc: Global, bench: &mut Bench, clips: &mut Clips, words: &[Vec<u8>]
     }
 }
 
-/// Copies the node at the stop, so that it can be inserted.
+/// Copies the node at the stop, so that a change of the bench's program can insert it.
 fn copy(alloc: Global, tree: &Tree, clips: &mut Clips, at: &Stop) -> Option<Made>
     requires { IsTree tree.now }
 {
@@ -178,7 +178,8 @@ fn edit_at(
     })
 }
 
-/// For a change of the program, the phrase of the category that the text is, if it may stand in a part.
+/// The phrase that a change of a bench's program enters at a stop: what the text is in the category, if it may
+/// stand in a part.
 fn phrase(alloc: Global, category: Category, text: &[u8]) -> Option<Phrase>
     ensures { IfSome result (λ phrase. IsPhrasePlace (Some (plain_phrase phrase))) }
 {

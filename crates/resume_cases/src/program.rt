@@ -48,7 +48,7 @@ pub(crate) fn take_listing(bench: &mut Bench, listing: &[u8], told: &mut Told) -
     }
 }
 
-/// Makes the tree the program of the bench, of which no run stands.
+/// Makes the tree, a new one or one that is read, the program of the bench, of which no run stands.
 fn take(bench: &mut Bench, tree: Tree)
     requires { IsTree tree }
     ensures { IsBench bench.new }

@@ -27,7 +27,8 @@ impl Scene {
     }
 }
 
-/// Makes the program of the lines of text and this many steps the scene, sets it, and tells where its run stands.
+/// Makes the scene of a table of edits: the program of the lines of text, of whose run this many steps are
+/// made. Sets it, and tells where the run stands.
 pub(crate) fn keep_scene(held: &mut Held, steps: &[u8], told: &mut Told) -> Option<()>
     requires { IsBench held.old.bench }
     ensures { IsBench held.new.bench }

@@ -19,7 +19,7 @@ use std::alloc::Global;
 use suspend_state::{RunReason, Suspending};
 use template_tree::Tree;
 
-/// Begins a new run of the bench's program in place of the one that stands, and tells where it stands.
+/// Begins the run of the bench anew in place of the one that stands, and tells where it stands.
 pub(crate) fn run(bench: &mut Bench, told: &mut Told) -> Option<()>
     requires { IsBench bench.old }
     ensures { IsBench bench.new }
@@ -79,8 +79,8 @@ pub(crate) fn step_most(bench: &mut Bench, input: &[u8], most: u32, told: &mut T
     step_run(&bench.tree, input, suspended, most, told)
 }
 
-/// Makes so many steps of the run at most, unless something is kept for it, and tells how many were made and where
-/// the run stands.
+/// Makes steps of the bench's run, so many at most, unless something is kept for it, and tells how many were
+/// made and where the run stands.
 fn step_run(
     tree: &Tree,
     input: &[u8],
@@ -127,8 +127,8 @@ fn stepped(
     Some(most)
 }
 
-/// Makes a step of the run by the code of its program and notes it. Whether it was made, or `None` where memory runs
-/// out.
+/// Makes a step of the bench's run by the code of its program and notes it, or sets why the run then stands
+/// still. Whether it was made, or `None` where memory runs out.
 fn is_stepped(
     alloc: Global,
     tree: &Tree,
@@ -221,7 +221,8 @@ pub(crate) fn step_back(bench: &mut Bench, most: &[u8], told: &mut Told) -> Opti
     Some(())
 }
 
-/// Takes so many steps of the run back at most, and tells how many and where the run stands; or that none is held.
+/// Takes steps of the bench's run back, so many at most, and tells how many and where the run stands; or that
+/// none is held.
 fn run_back(tree: &Tree, suspended: &mut Suspended, most: u32, told: &mut Told)
     requires { SuspendedIn tree.now suspended.old }
     ensures { SuspendedIn tree.now suspended.new }
@@ -237,7 +238,7 @@ fn run_back(tree: &Tree, suspended: &mut Suspended, most: u32, told: &mut Told)
     tell_paused(suspended, told);
 }
 
-/// Takes so many steps of the run of the program back at most. How many were taken back.
+/// Takes so many steps of the bench's run back at most. How many were taken back.
 fn stepped_back(tree: &Tree, suspended: &mut Suspended, most: u32) -> u32
     requires { SuspendedIn tree.now suspended.old }
     ensures { SuspendedIn tree.now suspended.new }
@@ -250,7 +251,7 @@ fn stepped_back(tree: &Tree, suspended: &mut Suspended, most: u32) -> u32
     most
 }
 
-/// Takes the latest step of the run of the program back. Whether one was held.
+/// Takes the latest step of the bench's run back. Whether one was held.
 fn is_taken_back(tree: &Tree, suspended: &mut Suspended) -> bool
     requires { SuspendedIn tree.now suspended.old }
     ensures { SuspendedIn tree.now suspended.new }

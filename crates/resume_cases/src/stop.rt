@@ -27,7 +27,7 @@ pub(crate) fn stop_of(tree: &Tree, word: &[u8]) -> Option<Stop>
     }
 }
 
-/// The stop of the node in the slot, or `None` where it isn't visible.
+/// The stop of the program by a slot alone, at the node in it, or `None` where that isn't visible.
 fn node_stop(tree: &Tree, slot: Slot) -> Option<Stop>
     requires { IsTree tree.now }
     ensures { IfSome result (λ stop. IsStop (roomless_tree tree.now).items (plain_stop stop)) }

@@ -7,7 +7,7 @@ use case_script::{Told, number_of};
 use plcs_base::{ByteOut, Name, Place, Value};
 use plcs_store::{Cell, Frame, KeptLoop};
 
-/// Tells where the run stands, in a line.
+/// Of a run that stands still, tells where it stands, in a line.
 pub(crate) fn tell_place(suspended: &Suspended, told: &mut Told) {
     match suspended.run.state.frames.place() {
         Some(place) => put_place(place, told),
@@ -60,7 +60,7 @@ fn tell_frame(frame: &Frame, told: &mut Told) {
     told.line("");
 }
 
-/// Tells a loop: the slot of its For, and its limit and step.
+/// Of a run that stands still, tells a loop of a frame: the slot of its For, and its limit and step.
 fn put_loop(kept: KeptLoop, told: &mut Told) {
     told.text(", loop ");
     told.value(&kept.slot.0);
@@ -84,7 +84,7 @@ pub(crate) fn tell_cells(bench: &Bench, frame: &[u8], name: &[u8], told: &mut To
     Some(())
 }
 
-/// Tells what is in a cell, in a line.
+/// Tells what is in a cell of a run that stands still, on a line of its own.
 fn tell_cell(cell: &Cell, told: &mut Told) {
     match cell {
         Cell::Unset => told.text("unset"),
@@ -110,7 +110,7 @@ fn put_value(value: &Value, told: &mut Told) {
     }
 }
 
-/// Tells what the bench's run wrote.
+/// Tells what the bench's run, which stands still, wrote.
 pub(crate) fn tell_output(bench: &Bench, told: &mut Told) -> Option<()> {
     let Some(suspended) = &bench.suspended else {
         return None;

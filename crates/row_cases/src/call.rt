@@ -32,8 +32,8 @@ pub static CALLS: [(&[u8], Call); 9] = [
     (b"line_ends", Call::LineEnds),
 ];
 
-/// Makes this one of the calls on rows and texts, with these arguments, and puts what it answers, if it takes such
-/// arguments.
+/// Makes this one of the calls that a script may name, on rows or texts, with these arguments, and puts what it
+/// answers, if it takes such arguments.
 pub fn play(call: Call, arguments: &[Vec<u8>], told: &mut Told) -> Option<()> {
     match (call, arguments) {
         (Call::FirstDifference, [a, b]) => put_first_difference(a, b, told),

@@ -38,7 +38,8 @@ pub(crate) enum Question {
     Run(Telling),
 }
 
-/// Asks the code of the program, which is made anew under the program's own marks.
+/// Answers what a case asks of the code of the program, or runs that code, which is made under the program's
+/// own marks.
 pub(crate) fn ask(tree: &Tree, question: Question, words: &[Vec<u8>], told: &mut Told) -> Option<()>
     requires { IsTree tree.now }
 {

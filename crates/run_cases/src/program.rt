@@ -27,7 +27,7 @@ fn listing_of(alloc: Global, text: &[Vec<u8>]) -> Result<Vec<u8>, AllocError> {
     Ok(listing)
 }
 
-/// Makes the program that of the listing, unless it is refused.
+/// Makes the program whose code is asked that of the listing, unless it is refused.
 fn take_listing(tree: &mut Tree, listing: &[u8], told: &mut Told)
     requires { IsTree tree.old }
     ensures { IsTree tree.new }

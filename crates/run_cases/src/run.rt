@@ -12,7 +12,7 @@ use plcs_machine::{StepAnswer, code_begins_as_tree, code_steps_as_tree, start, s
 use plcs_store::{RunState, Undo, new_runs_fit, steps_keep_fit};
 use std::alloc::Global;
 
-/// What is told of a run.
+/// What is told of a new run of the program's code: what comes of its steps, its end, or what it is in.
 #[derive(Clone, Copy)]
 pub(crate) enum Telling {
     /// What came of each step.
@@ -23,7 +23,7 @@ pub(crate) enum Telling {
     State,
 }
 
-/// A run as far as it was played.
+/// A new run of the program's code, as far as its steps were played.
 #[derive(Drop)]
 struct Run {
     /// What it is in.
@@ -95,7 +95,7 @@ fn begin(alloc: Global, code: &FlatCode<Counts>) -> Option<Run>
     })
 }
 
-/// What a new run of the code is in, if there is memory for it.
+/// What a new run of the program's code is in before its first step, if there is memory for it.
 fn new_state(alloc: Global, code: &FlatCode<Counts>, work: &mut Counts) -> Option<RunState>
     requires { IsProgramCode code.now }
     ensures { IfSome result (λ state. StandsByCode code.now state) }

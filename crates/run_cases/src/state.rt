@@ -113,7 +113,8 @@ fn tell_variable(variable: &Variable, told: &mut Told) {
     told.line("");
 }
 
-/// Tells what is in a cell.
+/// Tells a cell of a variable, as a part of what a run is in: its value, for which cell it stands, or that it
+/// is unset.
 fn tell_cell(cell: &Cell, told: &mut Told) {
     match cell {
         Cell::Unset => told.text("unset"),
@@ -122,8 +123,8 @@ fn tell_cell(cell: &Cell, told: &mut Told) {
     }
 }
 
-/// Tells for which cell one stands: the number of its frame, its name, and its number among the cells of the name,
-/// counted from 0.
+/// As a part of what a run is in, tells for which cell one of a variable stands: the number of its frame, its
+/// name, and its number among the cells of the name, counted from 0.
 fn tell_location(location: &Location, told: &mut Told) {
     told.text("at ");
     told.value(&location.frame);

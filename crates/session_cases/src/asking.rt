@@ -78,7 +78,7 @@ fn listing(alloc: Global, sitting: &mut Sitting, scene: &mut Scene) -> Option<()
     Some(())
 }
 
-/// Tells the listing of the program of a session that is asked for it.
+/// Tells what a session over a new program is asked for: the listing of its program.
 fn tell_listing(alloc: Global, session: &Session<Counts>, told: &mut Told)
     requires { IsReadyForKey session.now }
 {

@@ -1,4 +1,4 @@
-//! Cases of files: those that runs find, what they hold, and what sessions tell of them.
+//! Cases of files: those that runs of the editor find, what they hold, and what sessions tell of them.
 
 use crate::playing::{NOTHING, play, size_words};
 use crate::scene::Scene;
@@ -25,14 +25,14 @@ pub fn file_of_text(alloc: Global, scene: &mut Scene, name: &[u8]) -> Option<()>
     file(scene, name, text.as_slice())
 }
 
-/// `file NAME CONTENT`: puts a file.
+/// `file NAME CONTENT`: puts a file that holds this among those that runs of the editor find.
 pub fn file(scene: &mut Scene, name: &[u8], content: &[u8]) -> Option<()> {
     let put = put_file(&mut scene.files, name, content);
     scene.told.value_line(&put);
     Some(())
 }
 
-/// Puts a file of these bytes among those that a run finds.
+/// For a case of files, puts one of these bytes among those that a run of the editor finds.
 fn put_file(files: &mut MemFiles, name: &[u8], bytes: &[u8]) -> Result<(), FilesFault> {
     files.begin(name)?;
     if !bytes.is_empty() {
@@ -41,13 +41,13 @@ fn put_file(files: &mut MemFiles, name: &[u8], bytes: &[u8]) -> Result<(), Files
     files.commit()
 }
 
-/// `content NAME`: what the file holds.
+/// `content NAME`: what the file holds, as a run of the editor finds or leaves it.
 pub fn content(scene: &mut Scene, name: &[u8]) -> Option<()> {
     tell_content(&scene.files, name, &mut scene.told);
     Some(())
 }
 
-/// For a case of files, tells what the file of this name holds, as a run finds or leaves it.
+/// For a case of files, tells what the file of this name holds, as a run of the editor finds or leaves it.
 pub fn tell_content(files: &MemFiles, name: &[u8], told: &mut Told) {
     match files.content(name) {
         Some(bytes) => told.word_line(bytes),

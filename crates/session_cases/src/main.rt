@@ -115,7 +115,8 @@ static CASES: [(&[u8], Case); 17] = [
     (b"status", Case::Status),
 ];
 
-/// Plays a case on whole sessions with these arguments, if it takes them.
+/// Plays this one of the script's cases, on a run of the editor or a session pressed key by key, with these
+/// arguments, if it takes them.
 fn play(alloc: Global, scene: &mut Scene, case: Case, arguments: &[Vec<u8>]) -> Option<()> {
     match (case, arguments) {
         (Case::From, [keys]) => session_cases::from(alloc, scene, keys),

@@ -27,6 +27,17 @@ pub fn count_pieces(written: &[u8]) -> usize {
     count
 }
 
+/// Of a whole run in which a read or a write failed, how many pieces it wrote, if they are the first of those
+/// that it writes without the failure.
+pub fn first_pieces(whole: &[u8], part: &[u8]) -> Option<usize> {
+    let behind = whole.strip_prefix(part)?;
+    if part.is_empty() || behind.is_empty() || is_place(behind) {
+        Some(count_pieces(part))
+    } else {
+        None
+    }
+}
+
 /// Whether a piece begins here: its first bytes say where it stands.
 pub fn is_place(bytes: &[u8]) -> bool {
     let Some(behind) = bytes.strip_prefix(b"\x1b[") else {

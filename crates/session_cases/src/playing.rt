@@ -36,7 +36,7 @@ impl Played {
         }
     }
 
-    /// How many instructions were fetched in a run of the editor.
+    /// How many instructions were fetched in a run of the editor that was played in memory.
     pub fn fetched(&self) -> u64 {
         self.counts.fetched
     }
@@ -46,9 +46,9 @@ impl Played {
         self.screen.bytes()
     }
 
-    /// Reads from the source in memory over which the editor ran, and tells the first 256 keys that are left
-    /// there, if there are any. The read that is to fail may be the one that is made here, and then another one
-    /// is made.
+    /// After a run of the editor over a source in memory, reads from that source, and tells the first 256 keys
+    /// that are left there, if there are any. The read that is to fail may be the one that is made here, and
+    /// then another one is made.
     pub fn tell_left(&mut self, told: &mut Told) {
         let mut buf = [0u8; 256];
         let count = match self.keys.read(&mut buf) {
@@ -82,7 +82,7 @@ pub fn play(
     })
 }
 
-/// A source of these keys, one read of which fails.
+/// A source in memory of the keys of a run of the editor, one read of which fails.
 fn source_of(alloc: Global, keys: &[u8], failing: u64) -> Option<MemSource> {
     let keys = keys.to_vec(alloc).ok()?;
     Some(MemSource::new(keys, [failing].to_vec(alloc).ok()?))

@@ -43,7 +43,8 @@ fn size_of(rows: &[u8], cols: &[u8]) -> Option<(u16, u16)>
     Some((rows, cols))
 }
 
-/// The number of rows or columns that the word of a case of screens is, if it is one from the least to the most.
+/// The number of rows or columns of the terminal that shows a run, as the word of a case of screens says it, if
+/// it is one from the least to the most.
 fn number_within(word: &[u8], least: u16, most: u16) -> Option<u16>
     ensures least { IfSome result (λ number. least ≤ number) }
     ensures most { IfSome result (λ number. number ≤ most) }
@@ -83,8 +84,8 @@ fn tell_terminal(terminal: &Terminal, rows: u16, told: &mut Told)
     }
 }
 
-/// Tells the text of the cells of a terminal's row without the blanks at its end. What stands between two `~` is in
-/// negative image, and all else in default image.
+/// Tells a row that a terminal shows of a run: the text of its cells without the blanks at its end. What stands
+/// between two `~` is in negative image, and all else in default image.
 fn tell_row(cells: &[u16], told: &mut Told) {
     let mut negative = false;
     for cell in shown_cells(cells) {

@@ -60,8 +60,8 @@ static REFUSALS: [(&[u8], Refusal); 24] = [
     (b"NoHistory", Refusal::NoHistory),
 ];
 
-/// `tell REFUSAL`: what painting writes once a session, in which the keys at hand were pressed, shows this
-/// refusal.
+/// `tell REFUSAL`: what painting writes once a session, in which the keys at hand were pressed key by key,
+/// shows this refusal.
 pub fn tell(alloc: Global, scene: &mut Scene, word: &[u8]) -> Option<()> {
     ask(alloc, scene, Asked::Message(meaning(&REFUSALS, word)?), &[])
 }

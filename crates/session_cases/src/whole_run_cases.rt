@@ -1,6 +1,6 @@
 //! Cases of whole runs: how they end, what they write, and what they leave of the keys.
 
-use crate::pieces::{count_pieces, count_screens, is_place, tell_pieces};
+use crate::pieces::{count_screens, first_pieces, tell_pieces};
 use crate::playing::{Failing, NOTHING, Played, play, play_alone, play_on, push_word};
 use crate::scene::Scene;
 use case_script::{Told, meaning, number_of};
@@ -24,7 +24,7 @@ pub fn run(alloc: Global, scene: &mut Scene, words: &[Vec<u8>]) -> Option<()> {
     Some(())
 }
 
-/// Takes the words of a whole run, if they are texts.
+/// Takes the words of a case of whole runs with which the editor is run, if they are texts.
 fn take_words(alloc: Global, scene: &mut Scene, words: &[Vec<u8>]) -> Option<()> {
     scene.words.clear();
     for word in words {
@@ -45,7 +45,7 @@ fn play_taken(alloc: Global, scene: &mut Scene) -> Option<()> {
     Some(())
 }
 
-/// Tells how a run ended, what it wrote, and what it left.
+/// Tells how a whole run ended, what it wrote, and what it left of the keys.
 fn tell_run(played: &mut Played, told: &mut Told) {
     told.value_line(&played.status);
     tell_pieces(played.written(), told);
@@ -106,19 +106,8 @@ fn tell_behind(whole: &[u8], part: &[u8], told: &mut Told) {
     }
 }
 
-/// In a case of whole runs, how many pieces of a run's writing the part is, if it is the first pieces of the
-/// whole.
-fn first_pieces(whole: &[u8], part: &[u8]) -> Option<usize> {
-    let behind = whole.strip_prefix(part)?;
-    if part.is_empty() || behind.is_empty() || is_place(behind) {
-        Some(count_pieces(part))
-    } else {
-        None
-    }
-}
-
-/// `counted BEFORE LAST`: how many screens the editor shows for the last keys behind those before, and how many
-/// instructions it fetches, on a screen of 12 rows and 40 columns, where the keys end both times.
+/// `counted BEFORE LAST`: how many screens a whole run shows for the last keys behind those before, and how
+/// many instructions it fetches, on a screen of 12 rows and 40 columns, where the keys end both times.
 pub fn counted(alloc: Global, scene: &mut Scene, before: &[u8], last: &[u8]) -> Option<()> {
     let first = play_on(alloc, b"12", b"40", before)?;
     let whole = play_behind(alloc, before, last)?;
@@ -145,7 +134,8 @@ pub fn bytes(alloc: Global, scene: &mut Scene, before: &[u8], last: &[u8]) -> Op
     Some(())
 }
 
-/// Plays for a case the whole run of the editor over the one keys and then the others.
+/// For a case of whole runs that tells what last keys bring, runs the editor once on the keys before and then
+/// those.
 fn play_behind(alloc: Global, before: &[u8], last: &[u8]) -> Option<Played> {
     let keys = [before, last].concat(alloc).ok()?;
     play_on(alloc, b"12", b"40", keys.as_slice())

@@ -130,7 +130,7 @@ fn key_counts(moment: usize) -> (usize, usize) {
     (least, least + 1)
 }
 
-/// Whether the session wrote the screens of so many keys.
+/// Whether the session that goes on with an image that a crash left wrote the screens of so many keys.
 fn is_screen(behind: &Played, screens: &[Vec<u8>], count: usize) -> bool {
     match screens.get(count) {
         Some(bytes) => bytes.as_slice() == behind.written(),

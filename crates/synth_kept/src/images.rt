@@ -50,7 +50,8 @@ impl Images {
         }
     }
 
-    /// Has the session's disk, as it reads, be the only image that a crash of the session may leave of it.
+    /// Finds the images that a crash of the session may leave of its disk once all its writes are synced: one
+    /// alone, the disk as it reads.
     fn leave_disk(&mut self, alloc: Global) -> Option<()> {
         self.all.clear();
         let image = self.disk.bytes().to_vec(alloc).ok()?;
@@ -65,8 +66,8 @@ impl Images {
         Some(())
     }
 
-    /// Tears the range of a piece in each way: each byte of it as it was, as it is written, or another one, and each
-    /// length.
+    /// Tears the range of a piece that a session writes on its disk in each way: each byte of it as it was, as
+    /// it is written, or another one, and each length.
     fn tear_each(&mut self, alloc: Global, at: usize, piece: &[u8]) -> Option<()> {
         let mut place = at;
         for byte in piece {
@@ -76,7 +77,8 @@ impl Images {
         Some(())
     }
 
-    /// Tears the byte at this place: each image stays, and comes with that byte as it is written, or as another one.
+    /// Tears the byte at this place of the session's disk: each image stays, and comes with that byte as it is
+    /// written, or as another one.
     fn tear(&mut self, alloc: Global, place: usize, byte: u8) -> Option<()> {
         for image in &self.all {
             push_torn(alloc, image.as_slice(), place, byte, &mut self.torn).ok()?;
@@ -85,8 +87,8 @@ impl Images {
         Some(())
     }
 
-    /// Whether each image that a crash of the session may leave recovers to nothing or to these keys, and one
-    /// to these.
+    /// Whether each image of its disk that a crash of the session may leave recovers to nothing or to these
+    /// keys, and one to these.
     pub fn leave(&mut self, keys: &[u8]) -> Option<bool> {
         let mut is_found = false;
         for image in &self.all {
@@ -117,7 +119,8 @@ fn push_torn(
     Ok(())
 }
 
-/// The image with another byte at a place within it or at its end.
+/// The image of the session's disk with another byte, as a crash may leave it, at a place within it or at its
+/// end.
 fn with_byte(alloc: Global, image: &[u8], place: usize, value: u8) -> Result<Vec<u8>, AllocError> {
     let mut bytes = image.to_vec(alloc)?;
     if place < bytes.len() {
@@ -128,7 +131,7 @@ fn with_byte(alloc: Global, image: &[u8], place: usize, value: u8) -> Result<Vec
     Ok(bytes)
 }
 
-/// Finds the keys behind the open gates of an image.
+/// Finds the keys behind the open gates of an image that a crash of a session may leave.
 fn recover(image: &[u8], keys: &mut Vec<u8>) -> Option<()> {
     keys.clear();
     for block in image.chunks(2) {

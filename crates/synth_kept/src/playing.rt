@@ -41,7 +41,8 @@ pub struct Played {
 }
 
 impl Played {
-    /// No session yet, and an empty disk of which no call fails.
+    /// No session was played yet, and the next one is played over an empty disk in memory of which no call
+    /// fails.
     pub fn none(alloc: Global) -> Played {
         Played {
             words: Vec::new(alloc),
@@ -90,7 +91,7 @@ impl Played {
         Some(())
     }
 
-    /// Plays a session of the keys of this source.
+    /// Plays a session of the keys of this source over the sink and the disk in memory.
     fn play_source(&mut self, alloc: Global, keys: MemSource) {
         let disk = mem::replace(&mut self.disk, MemDisk::new(alloc, Vec::new(alloc)));
         let (status, _, disk) = synth_kept(
@@ -122,7 +123,7 @@ impl Played {
         Some(())
     }
 
-    /// What a session played in memory is to write, as it was found last.
+    /// What a session over a disk in memory is to write on its sink, as it was found last.
     pub fn wanted(&self) -> &[u8] {
         self.wanted.bytes()
     }
@@ -133,7 +134,7 @@ impl Played {
     }
 }
 
-/// A disk that a crash of a played session left so.
+/// A disk in memory for a session that is played, as a crash left it.
 fn disk_of(alloc: Global, image: &[u8]) -> Option<MemDisk> {
     let mut disk = MemDisk::new(alloc, Vec::new(alloc));
     disk.write_at(0, image).ok()?;
@@ -141,7 +142,8 @@ fn disk_of(alloc: Global, image: &[u8]) -> Option<MemDisk> {
     Some(disk)
 }
 
-/// A source of these keys, one call of which fails.
+/// A source of these keys, one call of which fails, for a session over a disk in memory, or for one without a
+/// journal.
 fn source_of(alloc: Global, keys: &[u8], failing: u64) -> Option<MemSource> {
     let keys = keys.to_vec(alloc).ok()?;
     Some(MemSource::new(keys, [failing].to_vec(alloc).ok()?))

@@ -396,7 +396,7 @@ fn play_row(alloc: Global, played: &mut Played, row: &Row) -> Option<()> {
     played.play(alloc, row.keys, row.read, row.write)
 }
 
-/// Whether that is what the session wrote.
+/// Whether the session of a row wrote what the row says.
 fn is_written(alloc: Global, played: &mut Played, written: Written) -> Option<bool> {
     match written {
         Written::Pieces(count) => Some(are_pieces(played.written(), count)),
@@ -408,7 +408,7 @@ fn is_written(alloc: Global, played: &mut Played, written: Written) -> Option<bo
     }
 }
 
-/// Whether the bytes that a session wrote are so many pieces of the stored run.
+/// Whether the bytes that the session of a row of tests wrote are so many pieces of the stored run.
 fn are_pieces(bytes: &[u8], count: usize) -> bool {
     let mut left = bytes;
     for piece in &STORED_RUN[..count.min(ALL_PIECES)] {
@@ -420,7 +420,7 @@ fn are_pieces(bytes: &[u8], count: usize) -> bool {
     left.is_empty()
 }
 
-/// Whether that is what is left of the disk.
+/// Whether the session of a row left of its disk what the row says.
 fn is_kept(alloc: Global, images: &mut Images, disk: &MemDisk, kept: Kept) -> Option<bool> {
     match kept {
         Kept::Bytes(bytes) => Some(disk.bytes() == bytes),

@@ -207,7 +207,8 @@ fn fault_alone(refused: Option<(TreeFault, Phrase)>) -> Option<TreeFault> {
     }
 }
 
-/// The phrase of the category that the text reads as, unless memory is wanting.
+/// For a test of edits that are refused for want of memory, the phrase of the category that the text reads as,
+/// unless memory is wanting for that.
 fn phrase(alloc: Global, category: Category, text: &[u8]) -> Option<Phrase>
     ensures { IfSome result (λ phrase. IsPhrasePlace (Some (plain_phrase phrase))) }
 {
@@ -238,8 +239,8 @@ fn set(tree: &mut Tree, at: &Path, part: u8, place: PhrasePlace) -> Option<TreeF
     }
 }
 
-/// Puts a copy of the node in the slot in place of the hole at the path, and says why that is refused, if it is, as
-/// for want of memory.
+/// In a test whose allocations are refused in turn, puts a copy of the node in the slot in place of the hole at
+/// the path, and says why that is refused, if it is.
 fn copy(alloc: Global, tree: &mut Tree, slot: Slot, at: &Path) -> Option<TreeFault>
     requires { IsTree tree.old }
     ensures { IsTree tree.new }

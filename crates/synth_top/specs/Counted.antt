@@ -5,12 +5,12 @@ use Rattle.plcs_base.specs.PlainCounts.{PlainCounts}
 use Rattle.screen_window.specs.Screen.{window_rows}
 use Rattle.synth_top.specs.Turn.{Bill, Shot}
 
--- how many rows the windows of some shots have together
+-- of what is counted for some shots: how many rows their windows have together, and so how many lines are laid at most
 abbrev pub all_window_rows : List Shot → ℕ
 all_window_rows [] = 0
 all_window_rows (shot ∷ rest) = window_rows shot.screen.rows + all_window_rows rest
 
--- how many instructions were fetched for some shots together
+-- of what is counted for some shots: how many instructions were fetched for them together
 abbrev pub all_fetched : List Shot → ℕ
 all_fetched [] = 0
 all_fetched (shot ∷ rest) = shot.fetched + all_fetched rest

@@ -29,7 +29,7 @@ abbrev pub value_in_word : List ℕ → Option (List ℕ)
 value_in_word word =
     if list_any is_equals_sign (drop 2 word) then Some (after_first is_equals_sign (drop 2 word)) else None
 
--- whether an option has the name
+-- whether one of the options to which words give values has the name
 abbrev pub is_option_name : List ℕ → Bool
 is_option_name name =
     list_any (λ option. bytes_eq option name) (codes "rows" ∷ codes "cols" ∷ codes "keys" ∷ codes "input" ∷ [])
@@ -41,7 +41,7 @@ pub record NamedValue : Type 0 where
   pub name : List ℕ
   pub value : List ℕ
 
--- the value that the word that stands by itself gives, which is for `program`
+-- what the word gives that stands by itself among those that follow the program's name: a value with the name `program`
 abbrev pub program_value : List ℕ → NamedValue
 program_value word = record { name = codes "program"; value = word }
 

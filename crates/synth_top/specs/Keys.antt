@@ -61,7 +61,7 @@ held_bytes Nothing = []
 held_bytes Escape = 27 ∷ []
 held_bytes Bracket = 27 ∷ 91 ∷ []
 
--- the keys that one byte completes, in the order in which they are pressed
+-- the keys that the reader gives for one byte, in their order: those which the byte completes
 abbrev pub listed_keys : Keys → List Key
 listed_keys keys = option_to_list keys.first ++ option_to_list keys.second
 

@@ -74,8 +74,8 @@ loaded_input reply = []
 abbrev pub opening_tree : PlainFirstLoads → PlainTree
 opening_tree loads = tree_at_first (loaded_program loads.program)
 
--- the bill where a session is opened over the files that were loaded before the first screen: each phrase of its program
--- is checked once at most, and each instruction of its code emitted once at most
+-- the bill of the loads before the first screen, once a session is opened over what they gave: each phrase of its
+-- program is checked once at most, and each instruction of its code emitted once at most
 abbrev pub opening_bill : PlainFirstLoads → Bill
 opening_bill loads = record { checks = phrase_count (opening_tree loads); emits = code_length (opening_tree loads) }
 
@@ -98,13 +98,13 @@ abbrev pub refusal_told : Option FileRefusal → PlainSession → PlainSession
 refusal_told None s = s
 refusal_told (Some refusal) s = record s { message = refusal_text (Refusal.File refusal) }
 
--- the session of the opening screen: over the program that was loaded or a new one, with the input that was loaded, and with
--- the message of the first refusal
+-- the session once the files are loaded, before the first screen: over the program that was loaded or a new one, with
+-- the input that was loaded, and with the message of the first refusal
 abbrev pub first_session : PlainOptions → PlainFirstLoads → PlainSession
 first_session options loads =
     refusal_told (first_refusal loads)
     (opened_session options.size (loaded_program loads.program) (loaded_input loads.input))
 
--- the state once the files are loaded, with which the first screen comes; the loads leave the map as it is
+-- the state that the first screen shows, once the files were loaded before that; the loads leave the map as it is
 abbrev pub first_state : PlainOptions → Option FileMap → PlainFirstLoads → EditorState
 first_state options stored loads = record { session = first_session options loads; files = stored }

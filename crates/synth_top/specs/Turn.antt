@@ -183,7 +183,7 @@ answered state pressed = (press state.session pressed.key pressed.reply).answer
 abbrev pub pressed_session : EditorState → PressedKey → PlainSession
 pressed_session state pressed = (press state.session pressed.key pressed.reply).after
 
--- a bill: how many phrases are checked at most, and how many instructions emitted
+-- a bill, as the turn of a key has it: how many phrases are checked at most, and how many instructions emitted
 pub record Bill : Type 0 where
   pub checks : ℕ
   pub emits : ℕ
@@ -192,7 +192,7 @@ pub record Bill : Type 0 where
 abbrev pub no_bill : Bill
 no_bill = record { checks = 0; emits = 0 }
 
--- two bills together
+-- two bills together, as those of the turns of two keys
 abbrev pub both_bills : Bill → Bill → Bill
 both_bills one other = record { checks = one.checks + other.checks; emits = one.emits + other.emits }
 
@@ -246,7 +246,7 @@ abbrev pub ends : EditorState → List PressedKey → Bool
 ends state [] = false
 ends state (first ∷ rest) = (turn state first).ends || ends (turn state first).after rest
 
--- in the turn of each of some keys what it asks can be replied to so
+-- the turns of some keys can have these replies: in each, what its key asks can be replied to so
 abbrev pub HaveReplies : EditorState → List PressedKey → Type 0
 HaveReplies state [] = Unit {0}
 HaveReplies state (first ∷ rest) = HasReply state first × HaveReplies (turn state first).after rest
@@ -256,7 +256,7 @@ abbrev pub failures : List PressedKey → ℕ
 failures [] = 0
 failures (first ∷ rest) = failure first.reply + failures rest
 
--- of the turns of some keys none but the last was left before its end
+-- the turns of some keys came to their end, but for the last one, which may have been left before
 abbrev pub LeftAtLast : EditorState → List PressedKey → Type 0
 LeftAtLast state [] = Unit {0}
 LeftAtLast state (last ∷ []) = MayBeLeft state last last.left_after

@@ -86,7 +86,8 @@ ReadsInTurn options now bytes reads pressed =
     (reads ≡ length bytes)
     ⊎ (EndRead options now bytes reads × IsFront (completed bytes) (keys_pressed pressed))
 
--- what a whole run from this state of its opening screen has done between two moments
+-- what a whole run from this state of its opening screen has done between two moments: the bytes of keys that it took,
+-- the keys that it pressed, and how much of its screens it wrote
 pub record Course (options : PlainOptions) (first : EditorState) (before now : ToldStreams) : Type 0 where
   -- the bytes of keys, each taken once and in order, and at most one that a failed read lost
   pub bytes : List ℕ
@@ -134,7 +135,8 @@ module _ {options : PlainOptions} {first : EditorState} {before now : ToldStream
     pub ended : AllCameToEnd course.pressed
     pub going : ends first course.pressed ≡ false
 
-  -- a run read the source's end below the limit, and then what isn't complete was pressed too
+  -- a whole run stopped at the source's end: that was read below the limit, and then what isn't complete was pressed
+  -- too
   pub record SourceEnded : Type 0 where
     pub all : PressedAll (keys course.bytes)
     pub end : EndRead options now course.bytes course.reads
@@ -201,9 +203,9 @@ module _ {options : PlainOptions} {first : EditorState} {before now : ToldStream
     pub going : ends first course.pressed ≡ false
     pub taken : TakenAfter course.pressed
 
-  -- in a whole run a step of the program's run wanted memory, in the turn of the last key pressed, which was taken
-  -- and which asked the files for nothing; so many steps were made before that one, which calls a procedure, and the turn was left
-  -- there; none before it ended the session
+  -- in a whole run a step of the program's run wanted memory, in the turn of the last key pressed, which was taken and
+  -- which asked the files for nothing; so many steps were made before that one, which calls a procedure, and the turn
+  -- was left there; none before it ended the session
   pub record StepWanted (wants_before wants_now : ℕ) : Type 0 where
     pub at_key : AtLastKey
     pub number : ℕ
@@ -262,8 +264,8 @@ module _ {options : PlainOptions} {first : EditorState} {before now : ToldStream
       Some (all_fetched (wanted_shots wants_before wants_now later.2))
   fetches_due wants_before wants_now status stopped = None
 
-  -- what the source keeps besides its bytes is as after reads that were Ok, and then no byte was lost;
-  -- or as after one that wasn't, and then that read cut the run
+  -- how a whole run left its source: what that keeps besides its bytes is as after reads that were Ok, and then no byte
+  -- was lost; or as after one that wasn't, and then that read cut the run
   abbrev pub LeavesSource : Type 0 → Type 0 → Type 0
   LeavesSource after_reads after_fault = (after_reads × NoneLost) ⊎ (after_fault × ReadCut)
 
@@ -291,16 +293,17 @@ pub record NotOpened (status : Status) (options : PlainOptions) (before now : To
 -- a whole run in which a session was opened: it did this, and stopped, left its source and saved as its status says
 pub record Ran (status : Status) (options : PlainOptions) (before now : Told)
     (after_reads after_fault : Type 0) : Type 0 where
-  -- what the files did in the loads before the first screen
+  -- what the files did in the whole run before its first screen, where program and input were loaded
   pub loads : PlainFirstLoads
   pub can_load : CanLoad options before.files.stored loads
-  -- what the whole run did from the first screen on, why it stopped, and how many wants the files had counted then
+  -- which bytes of keys the whole run took and which of screens it wrote, why it stopped, and how many wants the files
+  -- had counted then
   pub course : Course options (first_state options before.files.stored loads) before.streams now.streams
   pub wants : ℕ
   pub wants_later : before.files.wants ≤ wants
   pub stopped : Stopped course before.files.wants wants status
   pub source : LeavesSource course after_reads after_fault
-  -- what a whole run saved at its end
+  -- what the whole run saved at its end, once it took no more keys and wrote no more screens
   pub rescue : Rescue
   pub rescued : IsRescue status rescue
   pub wants_now : CountsRescueWant rescue wants now.files.wants

@@ -105,7 +105,7 @@ fn given_by<'a>(matches: &ArgMatches<'a>) -> Given<'a>
     }
 }
 
-/// How the editor ends where clap refuses the words.
+/// How the editor ends where clap can't read the words as its command.
 fn status_of(error: &Error) -> Status
     ensures { ((result ≡ Status.NoMemory) × (kind_of error.now ≡ ErrorKind.OutOfMemory))
         ⊎ ((result ≡ Status.BadWords) × (kind_of error.now ≢ ErrorKind.OutOfMemory)) }

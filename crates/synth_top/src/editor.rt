@@ -17,10 +17,10 @@ ghost use Rattle.synth_top.specs.Keys.{keys, listed_keys};
 ghost use Rattle.synth_top.specs.Loads.{opening_bill, refusal_told};
 ghost use Rattle.synth_top.specs.Private.Loading.{IsInputIfLoaded, IsTreeIfLoaded};
 ghost use Rattle.synth_top.specs.Private.PlainForms.{plain_first_loads, plain_options};
-ghost use Rattle.synth_top.specs.Private.Pressing.{IsOpened, IsReady, IsUnshown, PressesKeys, ReadsByte, ended_as, moment_of};
+ghost use Rattle.synth_top.specs.Private.Pressing.{IsReady, PressesKeys, ReadsByte, ended_as, moment_of};
 ghost use Rattle.synth_top.specs.Private.PaintedScreen.{going_after};
 ghost use Rattle.synth_top.specs.Private.TicksShown.{MadeTicks};
-ghost use Rattle.synth_top.specs.Private.EditorRuns.{Rescues, EditorRuns};
+ghost use Rattle.synth_top.specs.Private.EditorRuns.{EditorRuns, IsOpened, IsUnshown, Rescues};
 ghost use Rattle.synth_top.specs.WholeRun.{opening};
 ghost use Rattle.synth_top.specs.Status.{LeftAs};
 
@@ -45,7 +45,8 @@ pub enum Going {
 }
 
 impl Going {
-    /// The status with which the run ends: the one that ended the session, or else this one.
+    /// The status with which the run of the editor ends: the one with which its session ended, or else this
+    /// one.
     fn ended_as(self, status: Status) -> Status
         ensures { result ≡ ended_as self status }
     {
@@ -205,7 +206,7 @@ impl<W: Work> Editor<W> {
         self.session.paint(screen)
     }
 
-    /// Presses the key that isn't complete, where no byte comes any more.
+    /// At the end of the run, where no byte of keys comes in any more, presses the key that isn't complete.
     fn finish<K: Sink, F: Files>(
         &mut self,
         alloc: Global,
@@ -267,8 +268,8 @@ impl<W: Work> Editor<W> {
         }
     }
 
-    /// Presses a key in a run and paints the screen after it. A key that ends the session has none, and
-    /// one that wants memory does nothing.
+    /// Presses in the run a key that came in, after which its screens go out. A key that ends the session has
+    /// none, and one that wants memory does nothing.
     fn press<K: Sink, F: Files>(
         &mut self,
         alloc: Global,

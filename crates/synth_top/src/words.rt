@@ -1,4 +1,4 @@
-//! The words that the system hands to a program.
+//! The words that the system hands to a program of the editor.
 
 ghost use Rattle.std.specs.Prelude.{◌≡◌, ◌≢◌, ◌⊎◌, drop, IfErr, IfOk, IsErrAnd, IsOkAnd};
 ghost use Rattle.std.specs.IoError.{error_kind};
@@ -10,9 +10,9 @@ use std::env::Args;
 use std::io;
 use std::io::{Error, ErrorKind};
 
-/// The words that follow the program's name, of all that the system gave: each as it is, and in order. It is
-/// `NoMemory` where memory ran out, and then none is handed over. Where one isn't text the system gave none, and
-/// it is `BadWords`, since such a word is none of the command.
+/// The words that follow the name of a program of the editor, of all that the system gave: each as it is, and
+/// in order. It is `NoMemory` where memory ran out, and then none is handed over. Where one isn't text the
+/// system gave none, and it is `BadWords`, since such a word is none of the command.
 pub fn words_of(alloc: Global, given: io::Result<Args>) -> Result<Vec<String>, Status>
     ensures all { IfOk result (λ words. IsOkAnd given (λ all. words.items ≡ drop 1 (into_iter_items all))) }
     ensures none { IfErr result (λ status. (status ≡ Status.NoMemory)
@@ -24,7 +24,8 @@ pub fn words_of(alloc: Global, given: io::Result<Args>) -> Result<Vec<String>, S
     }
 }
 
-/// The words after the first; it is `NoMemory` where memory runs out over them.
+/// The words after the first, which is the name of the editor's program; it is `NoMemory` where memory runs out
+/// over them.
 fn words_after_first(alloc: Global, mut all: Args) -> Result<Vec<String>, Status>
     ensures all { IfOk result (λ words. words.items ≡ drop 1 (into_iter_items all)) }
     ensures wanted { IfErr result (λ status. status ≡ Status.NoMemory) }
@@ -38,7 +39,7 @@ fn words_after_first(alloc: Global, mut all: Args) -> Result<Vec<String>, Status
     Ok(words)
 }
 
-/// How a program ends whose words the system doesn't give.
+/// How a program of the editor ends to which the system hands no words.
 fn status_of(error: &Error) -> Status
     ensures { ((result ≡ Status.NoMemory) × (error_kind error.now ≡ ErrorKind.OutOfMemory))
         ⊎ ((result ≡ Status.BadWords) × (error_kind error.now ≢ ErrorKind.OutOfMemory)) }

@@ -133,10 +133,10 @@ bell sequence = if nat_le (length (passed_of_sequence sequence)) 0 then 7 ∷ []
 abbrev pub of_sequences : (List ℕ → List ℕ) → (begun bytes : List ℕ) → List ℕ
 of_sequences given begun bytes = flat_map given (sequences begun bytes)
 
--- the bytes that pass to the editor of all bytes that a terminal sends
+-- what passes to the editor of all sequences that a terminal's bytes are made of
 abbrev pub passed_of : List ℕ → List ℕ
 passed_of bytes = of_sequences passed_of_sequence [] bytes
 
--- the bells that are rung of all bytes that a terminal sends
+-- the bells of all sequences that a terminal's bytes are made of: one for each of which nothing passes to the editor
 abbrev pub bells_of : List ℕ → List ℕ
 bells_of bytes = of_sequences bell [] bytes

@@ -125,7 +125,7 @@ fn give(sequence: &[u8], passes: &mut Passed, bells: &mut Bells)
     }
 }
 
-/// Appends what passes of a sequence; it has to fit.
+/// Appends what passes of a sequence to what passes of those that were cut before it; it has to fit.
 fn put(passes: &mut Passed, text: &[u8])
     requires { array_vec_len passes.old + length text.now ≤ 4096 }
     ensures all { passes.new.items ≡ passes.old.items ++ text.now }

@@ -67,7 +67,8 @@ fn pass<K: Sink, B: Sink>(
     write_piece(bells, rings.as_slice())
 }
 
-/// Rings for a sequence that lacks bytes, which no byte follows any more.
+/// Ends the passing of keys, once no more of a terminal's bytes come in: a bell goes out for a sequence that
+/// lacks bytes, if one has begun.
 fn end<B: Sink>(begun: Begun, bells: &mut B) -> Ending
     ensures rung { RingsLast result begun.bytes.items (B.taken bells.old) (B.taken bells.new) }
     ensures fault { result ≡ Ending.WriteFault → Rose (B.faults bells.old) (B.faults bells.new) }
@@ -78,7 +79,7 @@ fn end<B: Sink>(begun: Begun, bells: &mut B) -> Ending
     }
 }
 
-/// The ending that a fault of a write makes.
+/// What the passing of keys answers where what passes of a read, or a bell, couldn't go out for this fault.
 fn ending_of(fault: SinkFault) -> Ending
     ensures { result ≡ fault_ending fault }
 {

@@ -14,7 +14,7 @@ use plcs_base::{ByteOut, Name};
 use plcs_grammar::Phrase;
 use std::alloc::Global;
 
-/// A call on clips that a case of clips makes.
+/// What a case of clips may do with them.
 #[derive(Clone, Copy)]
 pub(crate) enum ClipCall {
     /// `no_clips`: clips with nothing in them.

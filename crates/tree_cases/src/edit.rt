@@ -32,7 +32,7 @@ pub(crate) enum Edit<'a> {
     DropHole,
 }
 
-/// The words by which cases of trees name the edits that they make.
+/// The edits of trees by the words with which cases and walks name them.
 #[derive(Clone, Copy)]
 pub(crate) enum EditWord {
     Fill,
@@ -57,7 +57,7 @@ static EDITS: [(&[u8], EditWord); 8] = [
     (b"drop_hole", EditWord::DropHole),
 ];
 
-/// The edit of these words, and where it is made.
+/// The edit of a tree that these words say, as a case or a walk makes it, with where it is made.
 pub(crate) fn step_of(words: &[Vec<u8>]) -> Option<Step<'_>> {
     let (word, rest) = words.split_first()?;
     step_with(meaning(&EDITS, word.as_slice())?, rest)
@@ -89,8 +89,8 @@ fn edit_of(word: EditWord, rest: &[Vec<u8>]) -> Option<Edit<'_>> {
     }
 }
 
-/// The part at which an edit of a tree is made, as the word of a case says it: a number up to 255, or `-` for
-/// the node itself.
+/// The part at which an edit of a tree is made, as a case or a walk says it: a number up to 255, or `-` for the
+/// node itself.
 fn part_of(word: &[u8]) -> Option<Option<u8>> {
     if word == b"-".as_slice() {
         return Some(None);
@@ -98,8 +98,8 @@ fn part_of(word: &[u8]) -> Option<Option<u8>> {
     Some(Some(u8::try_from(number_of(word)?).ok()?))
 }
 
-/// Makes the edit at the path, unless it drops a hole. Gives its receipt, and the node that it took out, if it
-/// took one. Where it is refused, what comes back is told.
+/// Makes the edit of a case or a walk at the path, unless it drops a hole. Gives its receipt, and the node that
+/// it took out, if it took one. Where it is refused, what comes back is told.
 pub(crate) fn made(
     alloc: Global,
     tree: &mut Tree,
@@ -192,7 +192,7 @@ fn fill_assign(
     }
 }
 
-/// Makes the edit that sets a part of the node at the path.
+/// Makes the edit that sets a part of the node at the path, as a case or a walk says it.
 fn set(
     tree: &mut Tree,
     at: &Path,
@@ -254,7 +254,7 @@ fn insert_copy(
     }
 }
 
-/// Tells that the node of an edit comes back.
+/// Where an edit of a tree is refused, tells that the node comes back which it was to put in.
 pub(crate) fn tell_back(node: &Node, back: &mut Told) {
     back.text(", ");
     tell_node(node, back);

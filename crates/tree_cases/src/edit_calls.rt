@@ -11,7 +11,8 @@ use plcs_grammar::Template;
 use std::alloc::Global;
 use template_tree::{Change, Path, Tree, TreeFault};
 
-/// A call of many edits.
+/// Which case of many edits is played: one edit many times over, edits further and further inside, or many that
+/// are undone.
 #[derive(Clone, Copy)]
 pub(crate) enum EditsCall {
     /// `repeat TIMES ..` with an edit behind: that edit so many times, as far as it isn't refused.
@@ -83,7 +84,8 @@ fn is_made(alloc: Global, tree: &mut Tree, step: Step<'_>, told: &mut Told) -> O
     Some(answer.is_ok())
 }
 
-/// In a case of edits, makes the one that drops the hole at the path, and says what was changed.
+/// In a case of one edit alone, or of one made many times over, drops the hole at the path, and says what was
+/// changed.
 fn dropped(tree: &mut Tree, at: &Path) -> Result<Change, TreeFault>
     requires { IsTree tree.old }
     ensures { IsTree tree.new }
@@ -94,7 +96,8 @@ fn dropped(tree: &mut Tree, at: &Path) -> Result<Change, TreeFault>
     }
 }
 
-/// In a case of edits, makes one at the path that drops no hole, and says what was changed.
+/// In a case of edits, one alone or many times over, makes one at the path that drops no hole, and says what
+/// was changed.
 fn changed(
     alloc: Global,
     tree: &mut Tree,
@@ -111,7 +114,7 @@ fn changed(
     }
 }
 
-/// Tells the answer in a case of edits: what the edit changed, or why it is refused, and what comes back then.
+/// Answers a case of edits: tells what the edit changed, or why it is refused, and what comes back then.
 pub(crate) fn tell_answer(answer: Result<Change, TreeFault>, back: &Told, told: &mut Told) {
     match answer {
         Ok(change) => tell_change(change, told),
@@ -199,8 +202,8 @@ fn nested(alloc: Global, tree: &mut Tree, times: u32, at: Path, template: Templa
     times
 }
 
-/// Plays a case of many edits, those that the lines of text say, that are undone. Tells each answer, and
-/// whether each step back led to the tree before it.
+/// Plays a case of many edits that are undone: those that the lines of text say. Tells each answer, and whether
+/// each step back led to the tree before it.
 fn walk_lines(alloc: Global, tree: &mut Tree, text: &[u8], told: &mut Told) -> Option<()>
     requires { IsTree tree.old }
     ensures { IsTree tree.new }
@@ -214,7 +217,7 @@ fn walk_lines(alloc: Global, tree: &mut Tree, text: &[u8], told: &mut Told) -> O
     Some(())
 }
 
-/// The words of each line of the text of a case of many edits; a line says one of them.
+/// For a case of many edits that are undone, the words of each line of its text; a line says one edit.
 fn lines_of(alloc: Global, text: &[u8]) -> Option<Vec<Vec<Vec<u8>>>> {
     let mut lines = Vec::new(alloc);
     for line in text.split(|byte| *byte == b'\n') {
@@ -226,7 +229,7 @@ fn lines_of(alloc: Global, text: &[u8]) -> Option<Vec<Vec<Vec<u8>>>> {
     Some(lines)
 }
 
-/// The edits of a case that its lines say.
+/// The edits of a case of many, of which each line of its text says one.
 fn steps_of(alloc: Global, lines: &[Vec<Vec<u8>>]) -> Option<Vec<Step<'_>>> {
     let mut steps = Vec::new(alloc);
     for words in lines {
@@ -235,8 +238,8 @@ fn steps_of(alloc: Global, lines: &[Vec<Vec<u8>>]) -> Option<Vec<Step<'_>>> {
     Some(steps)
 }
 
-/// Plays a case of many edits, drawn at random, that are undone. Tells whether more than the least number were
-/// made, and whether each step back led to the tree before it.
+/// Plays a case of edits, many that are drawn at random and undone. Tells whether more than the least number
+/// were made, and whether each step back led to the tree before it.
 fn walk_at_random(
     alloc: Global,
     tree: &mut Tree,
@@ -256,8 +259,8 @@ fn walk_at_random(
     Some(())
 }
 
-/// In a case of many edits that are undone, tells whether more of a random walk than the least number were
-/// made, and whether each step back led to the tree before it.
+/// Tells the answer of a case of edits, many that are drawn at random and undone: whether more than the least
+/// number were made, and whether each step back led to the tree before it.
 fn tell_made(walked: &Walked, least: u32, told: &mut Told) {
     told.text(if walked.made > least {
         "more than "

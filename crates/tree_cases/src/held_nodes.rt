@@ -16,7 +16,7 @@ use plcs_base::{ByteOut, Name};
 use std::alloc::Global;
 use template_tree::{Change, Node, Path, Tree, TreeFault};
 
-/// A call on nodes that are held beside the tree: taken out, copied, looked at, or put in again.
+/// Which case of nodes that are held beside the tree is played: taken out, copied, looked at, or put in again.
 #[derive(Clone, Copy)]
 pub(crate) enum HeldCall {
     /// `take_as AT NAME`: takes the node out and holds it.
@@ -207,7 +207,7 @@ fn inserted(tree: &mut Tree, at: &Path, node: Node, back: &mut Told) -> Result<C
     }
 }
 
-/// Tells what stands at the path below the node that is held under the name.
+/// Tells what stands at the path below the node that is held beside the tree under the name.
 fn tell_held(held: &Clips, name: &[u8], below: &[u8], told: &mut Told) -> Option<()> {
     let below = path(below)?;
     let name = Name::read(name)?;

@@ -7,7 +7,7 @@ use case_script::{Told, number_of};
 use plcs_base::{ByteOut, Slot};
 use template_tree::{Path, Tree};
 
-/// What is read of a tree.
+/// What a case reads of a tree: its lines, its nodes and where they stand, or how many there are.
 #[derive(Clone, Copy)]
 pub(crate) enum Reader {
     /// `listing`: its lines.

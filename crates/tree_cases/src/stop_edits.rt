@@ -16,8 +16,9 @@ use session_edit::{Applied, Edit, apply, shown_stop, takes, wanted};
 use std::alloc::Global;
 use template_tree::{Node, Stop, Tree, TreeFault};
 
-/// A call at a stop, which is a path, with `:` and a part behind it or without. An edit is `fill TEMPLATE`,
-/// `enter CATEGORY TEXT`, `insert CATEGORY TEXT`, `insert_copy FROM`, `delete`, `take` or `beside SIDE`.
+/// Which case of edits at the stop of the cursor is played, or of what may be done there. A stop is a path,
+/// with `:` and a part behind it or without. An edit is `fill TEMPLATE`, `enter CATEGORY TEXT`,
+/// `insert CATEGORY TEXT`, `insert_copy FROM`, `delete`, `take` or `beside SIDE`.
 #[derive(Clone, Copy)]
 pub(crate) enum StopCall {
     /// `apply AT EDIT`: the edit at the visible stop.
@@ -248,7 +249,7 @@ fn stop_at(tree: &Tree, word: &[u8]) -> Option<Stop>
 /// The most parts that a node has, at which an edit may be made.
 const MOST_PARTS: u32 = 4;
 
-/// The stop of the cursor at which a case makes an edit, as the word says it.
+/// For a case of edits at the stop of the cursor, the stop that the word says.
 fn stop_of(word: &[u8]) -> Option<Stop> {
     let mut halves = word.split(|byte| *byte == b':');
     let path = path(halves.next()?)?;
@@ -259,7 +260,7 @@ fn stop_of(word: &[u8]) -> Option<Stop> {
     Some(Stop { path, part })
 }
 
-/// The words of edits at a stop.
+/// An edit that a case makes at the stop of the cursor, by its word.
 #[derive(Clone, Copy)]
 enum StopEdit {
     Delete,

@@ -37,14 +37,14 @@ pub(crate) fn tell_change(change: Change, told: &mut Told) {
     told.value(&change.what);
 }
 
-/// Tells the text of a phrase, in quotes.
+/// Tells a phrase, as that of a node or of a clip: its text, in quotes.
 pub(crate) fn tell_phrase(phrase: &Phrase, told: &mut Told) {
     let mut shown = Told::new(told.alloc());
     show(phrase, &mut shown);
     told.word(shown.as_bytes());
 }
 
-/// Tells what stands in a part: `-` for nothing.
+/// Tells what stands in a part of a tree's node: a phrase, or `-` for nothing.
 pub(crate) fn tell_place(place: &PhrasePlace, told: &mut Told) {
     match place {
         PhrasePlace::Empty => told.put(b'-'),

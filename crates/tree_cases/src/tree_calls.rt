@@ -40,7 +40,7 @@ fn new_tree(alloc: Global) -> Option<Tree>
     Tree::new(alloc).ok()
 }
 
-/// A call that makes a tree, or compares what it shows.
+/// A call of a case that makes a tree, hides or shows a refinement, or compares a tree with one before.
 #[derive(Clone, Copy)]
 pub(crate) enum TreeCall {
     /// `new`: a new tree, with no nodes held.

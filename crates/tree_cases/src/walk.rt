@@ -14,7 +14,8 @@ use plcs_grammar::{Category, Template};
 use std::alloc::{AllocError, Global};
 use template_tree::{Node, Path, Receipt, Side, Tree, TreeFault};
 
-/// What is found on a walk.
+/// What is found on a walk of edits: the answer to each, how many were made, and whether the tree before each
+/// came again.
 #[derive(Drop)]
 pub(crate) struct Walked {
     /// The answer to each edit.

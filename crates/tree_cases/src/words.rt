@@ -1,4 +1,4 @@
-//! Words of cases, and what they stand for.
+//! Words of cases over trees, and what they stand for.
 ghost use Rattle.std.specs.Prelude.{◌≡◌, ◌≤◌, length, IfSome, Some};
 ghost use Rattle.plcs_grammar.specs.Canon.{IsWellFormed};
 ghost use Rattle.plcs_grammar.specs.PlainPhrase.{category_of, plain_phrase};
@@ -51,7 +51,8 @@ pub(crate) static CATEGORIES: [(&[u8], Category); 12] = [
 /// The words of cases for sides.
 pub(crate) static SIDES: [(&[u8], Side); 2] = [(b"before", Side::Before), (b"after", Side::After)];
 
-/// The phrase of the category that the words of a case say by its text, if it may stand in a part.
+/// The phrase of the category for which a word of a case over trees stands as its text, if it may stand in a
+/// part.
 pub(crate) fn phrase(alloc: Global, category: Category, text: &[u8]) -> Option<Phrase>
     ensures { IfSome result (λ phrase. IsPhrasePlace (Some (plain_phrase phrase))) }
 {
@@ -64,7 +65,8 @@ pub(crate) fn phrase(alloc: Global, category: Category, text: &[u8]) -> Option<P
     }
 }
 
-/// The phrase of the category for which a word of a case stands, as the text of one.
+/// The phrase of the category for which a word of a case over trees stands as its text, whether or not it may
+/// stand in a part.
 fn parsed(alloc: Global, category: Category, text: &[u8]) -> Option<Phrase>
     requires { length text.now ≤ 1000 }
     ensures well_formed { IfSome result (λ phrase. IsWellFormed category (plain_phrase phrase)) }
@@ -89,7 +91,8 @@ impl At<'_> {
         }
     }
 
-    /// The path that the word of a case means, if it is one.
+    /// The path in the tree for which this word of a case stands, the one that it spells or that of the node in
+    /// its slot, if there is one.
     pub(crate) fn find(self, tree: &Tree) -> Option<Path>
         requires { IsTree tree.now }
     {
@@ -100,14 +103,14 @@ impl At<'_> {
     }
 }
 
-/// The path that the word of a case says, if it is one.
+/// The path in the tree for which the word of a case stands, if it stands for one.
 pub(crate) fn find(tree: &Tree, word: &[u8]) -> Option<Path>
     requires { IsTree tree.now }
 {
     At::of(word)?.find(tree)
 }
 
-/// The phrase that two words of a case stand for, the one for its category, the other for its text.
+/// The phrase that two words of a case over trees stand for, the one for its category, the other for its text.
 pub(crate) fn phrase_of(alloc: Global, category: &[u8], text: &[u8]) -> Option<Phrase>
     ensures { IfSome result (λ phrase. IsPhrasePlace (Some (plain_phrase phrase))) }
 {

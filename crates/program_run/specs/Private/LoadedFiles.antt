@@ -7,7 +7,7 @@ use Rattle.program_run.specs.declared.ending.Ending.{Ending}
 use Rattle.program_run.specs.AskedRun.{PlainAskedRun}
 use Rattle.program_run.specs.RunFiles.{IsInputNameRefused, IsInputRefused, IsProgramRefused}
 
--- how the run ends whose program isn't loaded, for this reason
+-- what loading the file of a run's program answers where that isn't loaded, for this reason: how the run ends
 abbrev pub ending_of_program : FileRefusal → Ending
 ending_of_program FileRefusal.OutOfMemory = Ending.NoMemory
 ending_of_program FileRefusal.NoFile = Ending.ProgramRefused FileRefusal.NoFile
@@ -17,7 +17,7 @@ ending_of_program FileRefusal.TooDeep = Ending.ProgramRefused FileRefusal.TooDee
 ending_of_program FileRefusal.TooLarge = Ending.ProgramRefused FileRefusal.TooLarge
 ending_of_program FileRefusal.TooLong = Ending.ProgramRefused FileRefusal.TooLong
 
--- how the run ends whose input isn't loaded, for this reason
+-- what loading the file of a run's input answers where that isn't loaded, for this reason: how the run ends
 abbrev pub ending_of_input : FileRefusal → Ending
 ending_of_input FileRefusal.OutOfMemory = Ending.NoMemory
 ending_of_input FileRefusal.NoFile = Ending.InputRefused FileRefusal.NoFile
@@ -27,21 +27,22 @@ ending_of_input FileRefusal.TooDeep = Ending.InputRefused FileRefusal.TooDeep
 ending_of_input FileRefusal.TooLarge = Ending.InputRefused FileRefusal.TooLarge
 ending_of_input FileRefusal.TooLong = Ending.InputRefused FileRefusal.TooLong
 
--- a run ends so since its program isn't loaded
+-- loading the file of a run's program answers that the run ends so, since it isn't loaded
 abbrev pub ProgramNotLoaded : Option FileMap → (name : List ℕ) → Ending → Type 0
 ProgramNotLoaded stored name (Ending.ProgramRefused refusal) =
     IsLoadRefused stored name refusal × (refusal ≢ FileRefusal.OutOfMemory)
 ProgramNotLoaded stored name Ending.NoMemory = Unit {0}
 ProgramNotLoaded stored name ending = ⊥
 
--- a run ends so since its input isn't loaded
+-- loading the file of a run's input answers that the run ends so, since it isn't loaded
 abbrev pub InputNotLoaded : Option FileMap → (name : Option (List ℕ)) → Ending → Type 0
 InputNotLoaded stored name (Ending.InputRefused refusal) =
     IsInputNameRefused stored name refusal × (refusal ≢ FileRefusal.OutOfMemory)
 InputNotLoaded stored name Ending.NoMemory = Unit {0}
 InputNotLoaded stored name ending = ⊥
 
--- the run that is asked for ends so since one of its files isn't loaded
+-- loading the files of the run that is asked for, one after the other, answers that it ends so, since one of them isn't
+-- loaded
 abbrev pub AreRefused : PlainAskedRun → Option FileMap → Ending → Type 0
 AreRefused asked stored (Ending.ProgramRefused refusal) = IsProgramRefused asked stored refusal
 AreRefused asked stored (Ending.InputRefused refusal) = IsInputRefused asked stored refusal

@@ -19,7 +19,7 @@ plain_given_words g = record {
 abbrev pub plain_asked_run : AskedRun → PlainAskedRun
 plain_asked_run a = record { steps = a.steps; program = a.program.now; input = option_map (λ name. name.now) a.input }
 
--- what clap's matches give of the command's words
+-- the plain form of what the words give, by what clap found in them
 abbrev pub words_of_matches : Found → PlainGivenWords
 words_of_matches found = record {
   steps = first_value found (codes "steps");

@@ -6,13 +6,13 @@ use Rattle.template_tree.specs.Programs.Limit.{most_slots}
 use Rattle.template_tree.specs.Programs.PlainTree.{PlainNode}
 use Rattle.program_run.specs.StoppedLine.{lines_to_place, lines_to_point}
 
--- how many lines a line that the table of templates may have is
+-- how many lines are counted, where the line of a run is sought, for one that the table of templates may have
 abbrev pub fixed_count : Option (List ℕ) → ℕ
 fixed_count None = 0
 fixed_count (Some text) = 1
 
--- how many lines of a node stand before the one at which a run stands, by its place; none where the slot is neither
--- the node's nor that of a node in it
+-- where the line of a run is sought in a node: how many of the node's lines stand before it, by the run's place; none
+-- where the slot is neither the node's nor that of a node in it
 abbrev pub lines_to_inside : PlainPlace → PlainNode → Option ℕ
 lines_to_inside place node =
     if node.label.slot == place.slot then Some (lines_to_point node.label node.inner place.point)

@@ -16,25 +16,25 @@ pub record TakesWhole {T : Type 0} (bytes : List ℕ) (result : Result T SinkFau
   pub cause : HasCause SinkFault.Failed faults_before faults_now result
   pub want : HasCause SinkFault.OutOfMemory wants_before wants_now result
 
--- a run ends as before, since all of its output was written, and the sink wanted no memory
+-- writing the output of a run put all of it into the sink, which wanted no memory, so that the run ends as before
 pub record IsAllWritten (own ending : Ending) (output : List ℕ) (before now : Option (List ℕ))
     (wants_before wants_now : ℕ) : Type 0 where
   pub same : ending ≡ own
   pub all : Appends before now output
   pub wants : wants_now ≡ wants_before
 
--- why an output was written in part: a write failed, or the sink wanted memory, which it counted
+-- why writing the output of a run to the sink broke off: a write failed, or the sink wanted memory, which it counted
 abbrev pub IsCut : Ending → (wants_before wants_now : ℕ) → Type 0
 IsCut ending wants_before wants_now =
     (ending ≡ Ending.WriteFault) ⊎ ((ending ≡ Ending.NoMemory) × Rose wants_before wants_now)
 
--- a run ends by what the sink answered, and a front of its output was written
+-- writing the output of a run put a front of it into the sink, and the run ends by what the sink answered
 pub record IsFrontWritten (ending : Ending) (output : List ℕ) (before now : Option (List ℕ))
     (wants_before wants_now : ℕ) : Type 0 where
   pub why : IsCut ending wants_before wants_now
   pub front : AppendsFront before now output
 
--- how a run that ended in its own way ends once its output was written
+-- how a run that ended in its own way ends after writing its output to the sink
 abbrev pub IsWritten : (own ending : Ending) → (output : List ℕ) → (before now : Option (List ℕ))
     → (wants_before wants_now : ℕ) → Type 0
 IsWritten own ending output before now wants_before wants_now =

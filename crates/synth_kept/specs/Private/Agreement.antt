@@ -12,7 +12,7 @@ pub record IsToClear (run : Status) (given : ℕ) (ended : Bool) : Type 0 where
   pub some : given ≢ 0
   pub going : ended ≡ false
 
--- the program closes a journal by clearing it exactly where it is to be cleared
+-- as the program decides it, a journal is closed by clearing it exactly where it is to be cleared
 abbrev pub ClosesAsDue : Closing → Status → ℕ → Bool → Type 0
 ClosesAsDue LeftStanding run given ended = IsToClear run given ended → ⊥
 ClosesAsDue Cleared run given ended = IsToClear run given ended

@@ -1,14 +1,32 @@
--- What a run does from an editor's first screen on, and what is then saved.
-use Rattle.std.specs.Prelude.{◌≡◌, ◌≤◌}
+-- What an editor is before its first screen, what a run does from that screen on, and what is then saved.
+use Rattle.std.specs.Prelude.{◌≡◌, ◌≤◌, []}
 use Rattle.plcs_base.specs.Count.{RoseBy}
 use Rattle.synth_outside.specs.Files.{PlainFiles}
+use Rattle.screen_window.specs.PlainGrid.{blank_grid}
 use Rattle.synth_session.specs.PlainSession.{PlainSession}
+use Rattle.synth_session.specs.SessionView.{plain_session, shown_grid}
+use Rattle.synth_top.specs.declared.editor.Editor.{Editor}
 use Rattle.synth_top.specs.declared.status.Status.{Status}
 use Rattle.synth_top.specs.Counted.{CountsFor}
+use Rattle.synth_top.specs.Loads.{PlainFirstLoads, first_session}
 use Rattle.synth_top.specs.Options.{PlainOptions}
 use Rattle.synth_top.specs.Rescue.{CountsRescueWant, IsRescue, Rescue, files_with, rescue_failure}
 use Rattle.synth_top.specs.WholeRun.{Course, LeavesSource, Stopped, Told, all_shots, fetches_due, run_bill, state_after}
 use Rattle.synth_top.specs.Turn.{IsToldAs, EditorState, failures}
+use Rattle.synth_top.specs.Private.Pressing.{IsReady}
+
+-- an editor at a moment of a run before its first screen, when no key was pressed yet
+pub record IsUnshown {W : Type 0} (e : Editor W) : Type 0 where
+  pub ready : IsReady e
+  pub painted : shown_grid e.session
+      ≡ blank_grid (plain_session e.session).size.rows (plain_session e.session).size.cols
+  pub reader : e.reader ≡ []
+
+-- an editor whose first screen isn't shown yet, as a run from that screen on begins: it has the session of these options
+-- and loads
+pub record IsOpened {W : Type 0} (options : PlainOptions) (loads : PlainFirstLoads) (e : Editor W) : Type 0 where
+  pub unshown : IsUnshown e
+  pub session : plain_session e.session ≡ first_session options loads
 
 -- a run from this state of the opening screen did this, stopped so, and left source, files and session so
 pub record EditorRuns (status : Status) (options : PlainOptions) (first : EditorState) (before now : Told)

@@ -15,24 +15,24 @@ use Rattle.synth_top.specs.Turn.{failure}
 
 -- ---- what the files did
 
--- files were only read by a load, without want of memory, and so many calls failed
+-- loading a file only read the files, without want of memory, and so many calls on them failed
 pub record OnlyRead (failures : ℕ) (before now : PlainFiles) : Type 0 where
   pub stored : now.stored ≡ before.stored
   pub later : before.faults ≤ now.faults
   pub faults : RoseBy failures before.faults now.faults
   pub wants : now.wants ≡ before.wants
 
--- the program was loaded so before a session is opened, with this reply
+-- loading the program, before a session is opened, did this with the files, and gave this reply
 pub record ProgramLoads (name : Option (List ℕ)) (reply : Reply) (before now : PlainFiles) : Type 0 where
   pub can : CanReply before.stored (program_request name) reply
   pub read : OnlyRead (failure reply) before now
 
--- the input was loaded so before a session is opened, with this reply
+-- loading the input, before a session is opened, did this with the files, and gave this reply
 pub record InputLoads (name : Option (List ℕ)) (reply : InputReply) (before now : PlainFiles) : Type 0 where
   pub can : IsInputReply before.stored name reply
   pub read : OnlyRead (input_failure reply) before now
 
--- program and input were both loaded so before a session is opened
+-- loading both program and input, before a session is opened, did this with the files
 pub record BothLoad (options : PlainOptions) (loads : PlainFirstLoads) (before now : PlainFiles) : Type 0 where
   pub can : CanLoad options before.stored loads
   pub read : OnlyRead (load_failures loads) before now

@@ -4,7 +4,7 @@ use Rattle.std.specs.Io.KnownBytes.{Appends, Consumes, IsAtEnd}
 use Rattle.plcs_base.specs.Count.{Rose, RoseBy}
 use Rattle.plcs_base.specs.PlainCounts.{PlainCounts}
 use Rattle.synth_outside.specs.Files.{PlainFiles}
-use Rattle.screen_window.specs.PlainGrid.{PlainGrid, blank_grid}
+use Rattle.screen_window.specs.PlainGrid.{PlainGrid}
 use Rattle.synth_session.specs.declared.answer.Answer.{Answer}
 use Rattle.synth_session.specs.declared.key.Key.{Key}
 use Rattle.synth_session.specs.KeyReply.{CountsWant, HaveReplied, Reply}
@@ -20,8 +20,6 @@ use Rattle.synth_top.specs.declared.editor.Going.TheVariants.{On, Over}
 use Rattle.synth_top.specs.declared.status.Status.{Status}
 use Rattle.synth_top.specs.declared.status.Status.TheVariants.{Done, ReadFault, WriteFault, NoMemory, BadWords, KeyLimit}
 use Rattle.synth_top.specs.Counted.{CountsFor, all_fetched}
-use Rattle.synth_top.specs.Loads.{PlainFirstLoads, first_session}
-use Rattle.synth_top.specs.Options.{PlainOptions}
 use Rattle.synth_top.specs.WholeRun.{painted_over}
 use Rattle.synth_outside.specs.Cause.{RisesWith}
 use Rattle.synth_top.specs.Turn.{AllCameToEnd, HasReply, HaveReplies, IsToldAs, LeftAtLast, PressedKey, EditorState, bills, state_after_keys, ends, failures, grids, keys_pressed, pressed_whole, shots, steps_of, turn}
@@ -33,20 +31,7 @@ use Rattle.synth_top.specs.Keys.{IsFront}
 abbrev pub IsReady : {W : Type 0} → Editor W → Type 0
 IsReady e = IsReadyForKey e.session
 
--- an editor at a moment of a run before any key is pressed, and before its first screen
-pub record IsUnshown {W : Type 0} (e : Editor W) : Type 0 where
-  pub ready : IsReady e
-  pub painted : shown_grid e.session
-      ≡ blank_grid (plain_session e.session).size.rows (plain_session e.session).size.cols
-  pub reader : e.reader ≡ []
-
--- an editor at the moment of a run from which keys are pressed, and before its first screen, with the session of these
--- options and loads
-pub record IsOpened {W : Type 0} (options : PlainOptions) (loads : PlainFirstLoads) (e : Editor W) : Type 0 where
-  pub unshown : IsUnshown e
-  pub session : plain_session e.session ≡ first_session options loads
-
--- between two moments of a run the next byte of the keys that are pressed was read, or nothing is left
+-- between two moments of a run in which keys are pressed their next byte was read, or nothing is left
 abbrev pub ReadsByte : Option ℕ → Option (List ℕ) → Option (List ℕ) → Type 0
 ReadsByte (Some byte) before now = Consumes before now (byte ∷ [])
 ReadsByte None before now = Consumes before now [] × IsAtEnd now
@@ -74,7 +59,8 @@ pub record Moment : Type 0 where
   pub files : PlainFiles
   pub counts : PlainCounts
 
--- what is seen at a moment of a run, of an editor, a sink, files and counts
+-- the moment before or after some keys are pressed at which a run has this editor, these bytes and wants of its sink,
+-- these files and these counts
 abbrev pub moment_of : {W : Type 0} → Editor W → Option (List ℕ) → ℕ → PlainFiles → PlainCounts → Moment
 moment_of e taken wanted files counts = record {
   session = plain_session e.session;
@@ -167,7 +153,8 @@ pub record KeysStepWanted (keys : List Key) (before now : Moment) : Type 0 where
   pub calls : CallsNext (steps_of now.session) now.session
   pub going : ends (state_at before) (earlier ++ last ∷ []) ≡ false
 
--- what is fetched in the press of a key is fetched for the shots of its turn: no more is fetched in it than for them
+-- of whatever key is pressed between two moments of a run: no more is fetched in its press than for the shots of its
+-- turn
 abbrev pub PressesFetchForShots : Type 0
 PressesFetchForShots =
     (state : EditorState) (key : Key) (reply : Reply)

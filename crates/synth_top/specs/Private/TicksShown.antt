@@ -12,21 +12,24 @@ use Rattle.synth_top.specs.Turn.{Shot, Ticks, left_session, no_bill, screens_of,
 use Rattle.synth_top.specs.WholeRun.{painted_over}
 use Rattle.synth_top.specs.Private.Pressing.{Moment, last_shown}
 
--- the ticks of a session whose key was pressed; what was fetched in the press isn't counted here
+-- the ticks of a pressed key in this session, from after the key was pressed on: what was fetched in the press isn't
+-- counted here
 abbrev pub ticks_from : PlainSession → Ticks
 ticks_from s = ticks (steps_of s) (steps_left s) 0 s
 
--- the shots of such ticks that are made where they are left after so many steps, or at the last one
+-- the shots of the ticks of a pressed key, from after it was pressed on, that are made where the ticks are left after
+-- so many steps, or at the last one
 abbrev pub shots_until : PlainSession → Option ℕ → List Shot
 shots_until s None = (ticks_from s).shots
 shots_until s (Some number) = if s.trace then take number (ticks_from s).shots else []
 
--- the session where such ticks are left after so many steps, or at the last one
+-- the session where the ticks of a pressed key, from after it was pressed on, are left after so many steps, or at the
+-- last one
 abbrev pub session_until : PlainSession → Option ℕ → PlainSession
 session_until s None = (ticks_from s).after
 session_until s (Some number) = left_session (steps_of s) number s
 
--- so many steps are made where such ticks are left
+-- so many steps are made where the ticks of a pressed key, from after it was pressed on, are left
 abbrev pub MadeUntil : PlainSession → Option ℕ → Type 0
 MadeUntil s None = Unit {0}
 MadeUntil s (Some number) = (number ≤ steps_left s) × AreMade (steps_of s) number s
@@ -40,8 +43,8 @@ pub record TicksShown (before now : Moment) : Type 0 where
   pub unwanted : now.wanted ≡ before.wanted
   pub counts : CountsFor no_bill (ticks_from before.session).shots None before.counts now.counts
 
--- the ticks of a key were left so, with so many bytes of their screens written; where memory ran out, so many instructions were
--- due
+-- the ticks of a key were left so, with so many bytes of their screens written; where memory ran out, so many
+-- instructions were due
 pub record TicksLeft (before now : Moment) (left : Option ℕ) (count : ℕ) (due : Option ℕ) : Type 0 where
   pub made : MadeUntil before.session left
   pub session : now.session ≡ session_until before.session left
@@ -50,19 +53,20 @@ pub record TicksLeft (before now : Moment) (left : Option ℕ) (count : ℕ) (du
       (take count (painted_over before.shown (screens_of (shots_until before.session left))))
   pub counts : CountsFor no_bill (shots_until before.session left) due before.counts now.counts
 
--- the screen of a tick of a key may be cut short where the ticks are left so: that of the last one, or one that shows a step
+-- a screen may be cut short where the ticks of a key that was pressed are left so: that of the last one, or one that
+-- shows a step
 abbrev pub ShowsUntil : PlainSession → Option ℕ → Type 0
 ShowsUntil s None = Unit {0}
 ShowsUntil s (Some number) = (s.trace ≡ true) × (0 < number)
 
--- a screen of a tick of a key was cut short
+-- after a key was pressed, the screen of one of its ticks was cut short
 pub record TicksCut (before now : Moment) : Type 0 where
   pub left : Option ℕ
   pub shows : ShowsUntil before.session left
   pub count : ℕ
   pub is_left : TicksLeft before now left count None
 
--- a step in a tick of a key wanted memory
+-- after a key was pressed, a step in one of its ticks wanted memory
 pub record TicksWanted (before now : Moment) : Type 0 where
   pub number : ℕ
   pub within : number < steps_left before.session

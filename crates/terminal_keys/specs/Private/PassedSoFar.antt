@@ -42,8 +42,8 @@ pub record PassesOneRead (begun bytes now : List ℕ) (result : Result Unit Sink
   pub passed_front : OnErr result (AppendsFront passed_before passed_now passes)
   pub rung_front : OnErr result (AppendsFront rung_before rung_now rings)
 
--- the passing of keys ended so at the end of the terminal's bytes: the bell of the last sequence was rung, where that lacks
--- bytes, or it couldn't be
+-- no byte came behind those that were read so far, and the passing of keys ended so: the bell of their last sequence
+-- was rung, where that lacks bytes, or it couldn't be
 abbrev pub RingsLast : Ending → (begun : List ℕ) → (rung_before rung_now : Option (List ℕ)) → Type 0
 RingsLast Done begun rung_before rung_now = Appends rung_before rung_now (of_sequences bell begun [])
 RingsLast WriteFault begun rung_before rung_now = AppendsFront rung_before rung_now (of_sequences bell begun [])
@@ -51,7 +51,7 @@ RingsLast NoMemory begun rung_before rung_now = AppendsFront rung_before rung_no
 RingsLast ReadFault begun rung_before rung_now = ⊥
 RingsLast ReadLimit begun rung_before rung_now = ⊥
 
--- the ending that a fault of a write makes
+-- how the passing of keys ends where what the bytes that were read so far give couldn't be written for this fault
 abbrev pub fault_ending : SinkFault → Ending
 fault_ending SinkFault.Failed = WriteFault
 fault_ending SinkFault.OutOfMemory = NoMemory
