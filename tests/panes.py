@@ -29,7 +29,7 @@ PROMPT = "prompt>"
 WORDS = {
     1: "since a read of keys failed",
     2: "since a write of a screen failed",
-    4: "since the words are not of the command; it takes --rows N from 12 to 100, --cols N from 40 to 160, --keys N from 1 to 1000000000, --input FILE and PROGRAM, each once at most and in any order, and --kept before them",
+    4: "since the words are not of the command; it takes --rows N from 12 to 100, --cols N from 40 to 160, --keys N from 1 to 1000000000, --input FILE and PROGRAM, each once at most and in any order, or --make N from 1 to 2000 alone, and --kept before them",
     6: "since the journal of keys, the file JOURNAL, could not be opened or cleared",
     129: "since the signal HUP stopped it",
     130: "since the signal INT stopped it",

@@ -10,8 +10,9 @@ use Rattle.key_journal.specs.Crash.{LeavesBetween, LeavesOneOf, LeavesOnly, Thro
 use Rattle.key_journal.specs.Disk.{DiskState, Newest}
 use Rattle.key_journal.specs.Journal.{PlainJournalKeys, left_of_both}
 use Rattle.key_journal.specs.Recovered.{kept_keys, recovered}
-use Rattle.synth_kept.specs.Closing.{Closing}
-use Rattle.synth_kept.specs.KeptWholeRun.{AreKeys, JournalWholeRun, KeptTold, TellsBoth, told_editor}
+use Rattle.synth_kept.specs.Closing.{ClearsWhere, Closing}
+use Rattle.synth_kept.specs.Closing.Closing.{Cleared, LeftStanding, NotCleared}
+use Rattle.synth_kept.specs.KeptWholeRun.{AreKeys, JournalWholeRun, KeptTold, TellsBoth, WholeRunByTask, told_editor}
 use Rattle.synth_kept.specs.Private.Agreement.{ClosesAsDue}
 use Rattle.synth_top.specs.declared.status.Status.{Status}
 use Rattle.synth_top.specs.declared.status.Status.TheVariants.{Done, ReadFault, WriteFault, NoMemory, BadWords, KeyLimit}
@@ -19,8 +20,8 @@ use Rattle.synth_top.specs.WholeRun.{Ended, LeavesSource, NoneLost, NotOpened, Q
 use Rattle.synth_top.specs.Status.{LeftAs}
 use Rattle.synth_top.specs.Loads.{first_state}
 use Rattle.synth_top.specs.Options.{PlainOptions}
-use Rattle.synth_top.specs.Task.{PlainTask}
-use Rattle.synth_top.specs.Task.PlainTask.{Edit}
+use Rattle.synth_top.specs.Task.{IsMaking, PlainTask}
+use Rattle.synth_top.specs.Task.PlainTask.{Edit, Make}
 use Rattle.synth_kept.proofs.GivenKeys.{given_all, given_before}
 use Rattle.synth_kept.proofs.Limits.{IsLimited, IsLimitedTask}
 use Rattle.synth_kept.proofs.Moments.{newest_weaker, one_of_all, still_told, throughout_both, throughout_same, throughout_weaker}
@@ -357,10 +358,13 @@ module _ {S D : Type 0} (left : S → Option (List ℕ)) (source_faults : S → 
         | inr e ↦ edits_ran run options limited closing agrees same_outside left_as e
       ]
 
-  -- words that aren't of the command
-  edits_none : (run : Status) (closing : Closing) (same_outside : Type 0) → (run ≡ BadWords) ⊎ (run ≡ NoMemory) → now ≡ first → same_outside →
-      JournalWholeRun None run closing before after same_outside (leads_to first.inner now.inner) (breaks_at first.inner now.inner)
-  edits_none run closing same_outside refused unread outside = record {
+  -- where no key was read, whatever was done
+  unread_edits : (task : Option PlainTask) (run : Status) (closing : Closing) (same_outside : Type 0) → now ≡ first →
+      WholeRunByTask task run closing before after [] [] same_outside (leads_to first.inner now.inner)
+      (breaks_at first.inner now.inner) →
+      JournalWholeRun task run closing before after same_outside (leads_to first.inner now.inner)
+      (breaks_at first.inner now.inner)
+  unread_edits task run closing same_outside unread edits = record {
     taken = [];
     last = [];
     took = subst (λ (journal : PlainJournalKeys S D). Consumes (left first.inner) (left journal.inner) []) (sym unread) (Consumes-nil (left first.inner));
@@ -374,16 +378,51 @@ module _ {S D : Type 0} (left : S → Option (List ℕ)) (source_faults : S → 
     safe = subst (λ (journal : PlainJournalKeys S D). Newest (LeavesOneOf (kept_keys origin ++ []) []) (past journal.disk)) (sym unread)
         (newest_weaker _ _ (past first.disk) (one_of_all (kept_keys origin ++ []))
         (subst (λ (keys : List ℕ). Newest (LeavesOnly keys) (past first.disk)) (sym (append-nil (kept_keys origin))) is_safe));
-    edits = record { refused = refused; none = refl; outside = outside };
+    edits = edits;
   }
+
+  -- words that aren't of the command
+  edits_none : (run : Status) (closing : Closing) (same_outside : Type 0) →
+      (run ≡ BadWords) ⊎ (run ≡ NoMemory) → now ≡ first → same_outside →
+      JournalWholeRun None run closing before after same_outside (leads_to first.inner now.inner)
+      (breaks_at first.inner now.inner)
+  edits_none run closing same_outside refused unread outside =
+      unread_edits None run closing same_outside unread (record { refused = refused; none = refl; outside = outside })
+
+  -- a journal of which no key was given isn't to be cleared
+  stands : (run : Status) (closing : Closing) → ClosesAsDue closing run now.given now.ended → now ≡ first →
+      ClearsWhere ⊥ closing
+  stands run LeftStanding agrees unread = λ never. never
+  stands run Cleared agrees unread =
+      agrees.some (ap (λ (journal : PlainJournalKeys S D). journal.given) unread ∙ none_given)
+  stands run (NotCleared fault) agrees unread =
+      agrees.some (ap (λ (journal : PlainJournalKeys S D). journal.given) unread ∙ none_given)
+
+  -- a program was made
+  edits_made : (number : ℕ) (run : Status) (closing : Closing) → ClosesAsDue closing run now.given now.ended →
+      (same_outside : Type 0) → now ≡ first → SynthTaskEnded run (Make number) →
+      JournalWholeRun (Some (Make number)) run closing before after same_outside (leads_to first.inner now.inner)
+      (breaks_at first.inner now.inner)
+  edits_made number run closing agrees same_outside unread ended =
+      unread_edits (Some (Make number)) run closing same_outside unread
+      (record {
+        made = ended.made;
+        none = refl;
+        source = ended.source.source;
+        files = ended.files;
+        standing = stands run closing agrees unread;
+      })
 
   -- by the task
   pub edits_with : (task : Option PlainTask) → IfSome task IsLimitedTask → (run : Status) (closing : Closing) →
       ClosesAsDue closing run now.given now.ended → (same_outside : Type 0) →
-      (task ≡ None → ((run ≡ BadWords) ⊎ (run ≡ NoMemory)) × (now ≡ first) × same_outside) → LeftAs run Leads Breaks →
+      (task ≡ None → ((run ≡ BadWords) ⊎ (run ≡ NoMemory)) × (now ≡ first) × same_outside) →
+      (IsMaking task → now ≡ first) → LeftAs run Leads Breaks →
       IfSome task (λ asked. SynthTaskEnded run asked) →
       JournalWholeRun task run closing before after same_outside (leads_to first.inner now.inner) (breaks_at first.inner now.inner)
-  edits_with None limited run closing agrees same_outside bad left_as ended =
+  edits_with None limited run closing agrees same_outside bad untouched left_as ended =
       edits_none run closing same_outside (bad refl).0 (bad refl).1 (bad refl).2
-  edits_with (Some (Edit options)) limited run closing agrees same_outside bad left_as ended =
+  edits_with (Some (Edit options)) limited run closing agrees same_outside bad untouched left_as ended =
       edits_by run options limited closing agrees same_outside left_as ended
+  edits_with (Some (Make number)) limited run closing agrees same_outside bad untouched left_as ended =
+      edits_made number run closing agrees same_outside (untouched tt) ended

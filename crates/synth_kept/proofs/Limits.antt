@@ -6,8 +6,8 @@ use Rattle.screen_window.specs.declared.limit.TheConstants.{FEWEST_ROWS, MOST_RO
 use Rattle.synth_top.specs.Given.{PlainGiven, given_in}
 use Rattle.synth_top.specs.Number.{is_number, number_in_digits, value_of}
 use Rattle.synth_top.specs.Options.{PlainOptions, count_given, is_name_given, options_with}
-use Rattle.synth_top.specs.Task.{PlainTask, task_of, task_with}
-use Rattle.synth_top.specs.Task.PlainTask.{Edit}
+use Rattle.synth_top.specs.Task.{PlainTask, gives_no_option, task_by, task_of, task_with}
+use Rattle.synth_top.specs.Task.PlainTask.{Edit, Make}
 
 -- these options have no greater limit
 abbrev pub IsLimited : PlainOptions → Type 0
@@ -16,6 +16,7 @@ IsLimited options = options.key_limit ≤ 1000000000
 -- nor has this task
 abbrev pub IsLimitedTask : PlainTask → Type 0
 IsLimitedTask (Edit options) = IsLimited options
+IsLimitedTask (Make number) = Unit {0}
 
 -- what may be made of a value that may be there
 and_then_all : {X Y : Type 0} (o : Option X) (f : X → Option Y) (P : Y → Type 0) → ((x : X) → IfSome (f x) P) → IfSome (option_and_then f o) P
@@ -63,10 +64,22 @@ task_limited : (options : Option PlainOptions) → IfSome options IsLimited → 
 task_limited None limited = tt
 task_limited (Some options) limited = limited
 
+-- nor takes the making of a program any
+making_limited : (alone : Bool) (number : Option ℕ)
+    → IfSome (if alone then option_map Make number else None) IsLimitedTask
+making_limited true None = tt
+making_limited true (Some number) = tt
+making_limited false number = tt
+
+-- by whether they ask for one
+task_by_limited : (given : PlainGiven) (make : Option (List ℕ)) → IfSome (task_by given make) IsLimitedTask
+task_by_limited given None = task_limited (options_with given) (limited_with given)
+task_by_limited given (Some number) = making_limited (gives_no_option given) _
+
 -- whatever the words ask for
 pub limited : (words : List (List ℕ)) → IfSome (task_of words) IsLimitedTask
 unfolding task_of
 limited words = given_limited (given_in words) where
   given_limited : (given : Option PlainGiven) → IfSome (option_and_then task_with given) IsLimitedTask
   given_limited None = tt
-  given_limited (Some given) = task_limited (options_with given) (limited_with given)
+  given_limited (Some given) = task_by_limited given given.make

@@ -15,9 +15,10 @@ use Rattle.synth_kept.specs.declared.status.KeptStatus.{KeptStatus}
 use Rattle.synth_top.specs.declared.status.Status.{Status}
 use Rattle.synth_top.specs.declared.status.Status.TheVariants.{Done, ReadFault, NoMemory, BadWords}
 use Rattle.synth_top.specs.WholeRun.{Ended, QuitPressed, Told}
+use Rattle.synth_top.specs.Making.{MadeAs, ToldMaking}
 use Rattle.synth_top.specs.Options.{PlainOptions}
 use Rattle.synth_top.specs.Task.{PlainTask}
-use Rattle.synth_top.specs.Task.PlainTask.{Edit}
+use Rattle.synth_top.specs.Task.PlainTask.{Edit, Make}
 
 -- what is told of the outside of a kept session: the bytes that the source of new keys has left, the
 -- states of the disk, the bytes that the sink took and its count of wants, the files, and what was counted
@@ -85,6 +86,20 @@ pub record RefusesWords (run : Status) (taken last : List ℕ) (same_outside : T
   pub none : taken ++ last ≡ []
   pub outside : same_outside
 
+-- what a making over an open journal changes of all that is told
+abbrev pub kept_making : KeptTold → ToldMaking
+kept_making told = record { taken = told.taken; wants = told.wants; counts = told.counts }
+
+-- a program was made over an open journal, as without one: no key was taken, the files are as they were, and the journal
+-- is left standing
+pub record MakesOverJournal (number : ℕ) (run : Status) (closing : Closing) (before now : KeptTold)
+    (taken last : List ℕ) (after_reads : Type 0) : Type 0 where
+  pub made : MadeAs run number (kept_making before) (kept_making now)
+  pub none : taken ++ last ≡ []
+  pub source : after_reads
+  pub files : now.files ≡ before.files
+  pub standing : ClearsWhere ⊥ closing
+
 -- what was done over an open journal, by the task that the words ask for, where they are of the command
 abbrev pub WholeRunByTask : Option PlainTask → Status → Closing → KeptTold → KeptTold → List ℕ → List ℕ →
     Type 0 → Type 0 → Type 0 → Type 0
@@ -92,6 +107,8 @@ WholeRunByTask None run closing before now taken last same_outside after_reads a
     RefusesWords run taken last same_outside
 WholeRunByTask (Some (Edit options)) run closing before now taken last same_outside after_reads after_fault =
     WholeRunOverKeys options run closing before now taken last after_reads after_fault
+WholeRunByTask (Some (Make number)) run closing before now taken last same_outside after_reads after_fault =
+    MakesOverJournal number run closing before now taken last after_reads
 
 -- a run of the editor over an open journal
 pub record JournalWholeRun (task : Option PlainTask) (run : Status) (closing : Closing)

@@ -55,7 +55,7 @@ fn main(rt: HostRuntime) -> ExitCode {
     let status = run(&rt);
     if status == KeptStatus::Run(Status::BadWords) {
         let _ = eprintln!(&rt;
-            "usage: synth [--kept] [--rows N] [--cols N] [--keys N] [--input FILE] [PROGRAM]"
+            "usage: synth [--kept] [--rows N] [--cols N] [--keys N] [--input FILE] [--make N] [PROGRAM]"
         );
     }
     ExitCode::from(status.code())

@@ -34,7 +34,7 @@ fn main(rt: HostRuntime) -> ExitCode {
     if status == Status::BadWords {
         // The status tells it too, where nothing can be written.
         let _ = eprintln!(&rt;
-            "usage: synth [--kept] [--rows N] [--cols N] [--keys N] [--input FILE] [PROGRAM]"
+            "usage: synth [--kept] [--rows N] [--cols N] [--keys N] [--input FILE] [--make N] [PROGRAM]"
         );
     }
     ExitCode::from(status.code())

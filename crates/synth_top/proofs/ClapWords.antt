@@ -39,34 +39,44 @@ abbrev rules : List Rule
 rules = synth_shape.rules
 
 -- the names of options, one by one
-module _ (P : Text → Type 0) (rows : P (codes "rows")) (cols : P (codes "cols")) (keys : P (codes "keys")) (input : P (codes "input")) where
+module _ (P : Text → Type 0) (rows : P (codes "rows")) (cols : P (codes "cols")) (keys : P (codes "keys"))
+    (input : P (codes "input")) (make : P (codes "make")) where
   each_option : (name : Text) → is_option_name name ≡ true → P name
   each_option name is =
       by_tests (bytes_eq (codes "rows") name) refl (bytes_eq (codes "cols") name) refl (bytes_eq (codes "keys") name) refl
-      (bytes_eq (codes "input") name) refl is
+      (bytes_eq (codes "input") name) refl (bytes_eq (codes "make") name) refl is
     where
       by_tests : (r : Bool) → bytes_eq (codes "rows") name ≡ r → (c : Bool) → bytes_eq (codes "cols") name ≡ c → (k : Bool) → bytes_eq (codes "keys") name ≡ k
-          → (i : Bool) → bytes_eq (codes "input") name ≡ i → (r || (c || (k || (i || false)))) ≡ true → P name
-      by_tests true r_is c c_is k k_is i i_is any = subst P ((bytes_eq-Decides (codes "rows") name).0 r_is) rows
-      by_tests false r_is true c_is k k_is i i_is any = subst P ((bytes_eq-Decides (codes "cols") name).0 c_is) cols
-      by_tests false r_is false c_is true k_is i i_is any = subst P ((bytes_eq-Decides (codes "keys") name).0 k_is) keys
-      by_tests false r_is false c_is false k_is true i_is any = subst P ((bytes_eq-Decides (codes "input") name).0 i_is) input
-      by_tests false r_is false c_is false k_is false i_is any = absurd (cc)
+          → (i : Bool) → bytes_eq (codes "input") name ≡ i → (m : Bool) → bytes_eq (codes "make") name ≡ m
+          → (r || (c || (k || (i || (m || false))))) ≡ true → P name
+      by_tests true r_is c c_is k k_is i i_is m m_is any = subst P ((bytes_eq-Decides (codes "rows") name).0 r_is) rows
+      by_tests false r_is true c_is k k_is i i_is m m_is any =
+          subst P ((bytes_eq-Decides (codes "cols") name).0 c_is) cols
+      by_tests false r_is false c_is true k_is i i_is m m_is any =
+          subst P ((bytes_eq-Decides (codes "keys") name).0 k_is) keys
+      by_tests false r_is false c_is false k_is true i_is m m_is any =
+          subst P ((bytes_eq-Decides (codes "input") name).0 i_is) input
+      by_tests false r_is false c_is false k_is false i_is true m_is any =
+          subst P ((bytes_eq-Decides (codes "make") name).0 m_is) make
+      by_tests false r_is false c_is false k_is false i_is false m_is any = absurd (cc)
 
 -- by which of the names an option is found
-abbrev found_by : (rows cols keys input : Bool) → Option Rule
-found_by rows cols keys input =
+abbrev found_by : (rows cols keys input make : Bool) → Option Rule
+found_by rows cols keys input make =
     if rows || false then Some (option_of (codes "rows"))
     else (if cols || false then Some (option_of (codes "cols"))
     else (if keys || false then Some (option_of (codes "keys"))
-    else (if input || false then Some (option_of (codes "input")) else None)))
+    else (if input || false then Some (option_of (codes "input"))
+    else (if make || false then Some (option_of (codes "make")) else None))))
 
-missing_by : (rows cols keys input : Bool) → (rows || (cols || (keys || (input || false)))) ≡ false → found_by rows cols keys input ≡ None
-missing_by true cols keys input isnt = absurd (cc)
-missing_by false true keys input isnt = absurd (cc)
-missing_by false false true input isnt = absurd (cc)
-missing_by false false false true isnt = absurd (cc)
-missing_by false false false false isnt = refl
+missing_by : (rows cols keys input make : Bool) → (rows || (cols || (keys || (input || (make || false))))) ≡ false
+    → found_by rows cols keys input make ≡ None
+missing_by true cols keys input make isnt = absurd (cc)
+missing_by false true keys input make isnt = absurd (cc)
+missing_by false false true input make isnt = absurd (cc)
+missing_by false false false true make isnt = absurd (cc)
+missing_by false false false false true isnt = absurd (cc)
+missing_by false false false false false isnt = refl
 
 -- no argument has a value of its own
 abbrev HaveNoDefaults : List Rule → Type 0
@@ -97,20 +107,22 @@ no_default_faults [] none rows = refl
 no_default_faults (a ∷ rest) none rows =
     ap (λ (k : Kinds). or_else k (defaults_fault (with_default rows a) rest)) (no_default_fault rows a none.0) ∙ no_default_faults rest none.1 (with_default rows a)
 
--- the command has four options and one word that stands by itself
+-- the command has five options and one word that stands by itself
 synth_words : IsWordCommand synth_shape
 synth_words = record {
   leaf = refl;
   once = refl;
-  option_named = each_option (λ name. arg_by_long rules name ≡ Some (option_of name)) refl refl refl refl;
-  none_named = λ name isnt. missing_by (bytes_eq (codes "rows") name) (bytes_eq (codes "cols") name) (bytes_eq (codes "keys") name) (bytes_eq (codes "input") name) isnt;
+  option_named = each_option (λ name. arg_by_long rules name ≡ Some (option_of name)) refl refl refl refl refl;
+  none_named = λ name isnt.
+      missing_by (bytes_eq (codes "rows") name) (bytes_eq (codes "cols") name) (bytes_eq (codes "keys") name)
+      (bytes_eq (codes "input") name) (bytes_eq (codes "make") name) isnt;
   none_lettered = λ letter. refl;
   first_word = refl;
   no_second_word = refl;
-  option_known = each_option (λ name. arg_by_id rules name ≡ Some (option_of name)) refl refl refl refl;
+  option_known = each_option (λ name. arg_by_id rules name ≡ Some (option_of name)) refl refl refl refl refl;
   program_known = refl;
-  no_default = no_default_rows rules (refl, (refl, (refl, (refl, (refl, tt)))));
-  no_default_fault = no_default_faults rules (refl, (refl, (refl, (refl, (refl, tt)))));
+  no_default = no_default_rows rules (refl, (refl, (refl, (refl, (refl, (refl, tt))))));
+  no_default_fault = no_default_faults rules (refl, (refl, (refl, (refl, (refl, (refl, tt))))));
   no_check_fault = λ rows. refl;
 }
 
@@ -127,20 +139,23 @@ first_in_rows name (v ∷ values) = by_test (bytes_eq v.name name) (first_in_row
   by_test false rest = rest
 
 -- what these texts give
-abbrev the_given : (rows cols keys input program : Option Text) → PlainGiven
-the_given rows cols keys input program = record { rows = rows; cols = cols; keys = keys; input = input; program = program }
+abbrev the_given : (rows cols keys input make program : Option Text) → PlainGiven
+the_given rows cols keys input make program =
+    record { rows = rows; cols = cols; keys = keys; input = input; make = make; program = program }
 
 -- the same texts give the same
-given_same : (a b c d e f g h i j : Option Text) → a ≡ b → c ≡ d → e ≡ f → g ≡ h → i ≡ j
-    → the_given a c e g i ≡ the_given b d f h j
-given_same a b c d e f g h i j ab cd ef gh ij =
-    ap (λ z. the_given z c e g i) ab ∙ ap (λ z. the_given b z e g i) cd ∙ ap (λ z. the_given b d z g i) ef ∙ ap (λ z. the_given b d f z i) gh
-    ∙ ap (λ z. the_given b d f h z) ij
+given_same : (a b c d e f g h i j k l : Option Text) → a ≡ b → c ≡ d → e ≡ f → g ≡ h → i ≡ j → k ≡ l
+    → the_given a c e g i k ≡ the_given b d f h j l
+given_same a b c d e f g h i j k l ab cd ef gh ij kl =
+    ap (λ z. the_given z c e g i k) ab ∙ ap (λ z. the_given b z e g i k) cd ∙ ap (λ z. the_given b d z g i k) ef
+    ∙ ap (λ z. the_given b d f z i k) gh ∙ ap (λ z. the_given b d f h z k) ij ∙ ap (λ z. the_given b d f h j z) kl
 
 -- values give what their rows give
 given_by_values : (values : List NamedValue) → given_of_rows (rows_of_values values) ≡ given_by values
-given_by_values values = given_same _ _ _ _ _ _ _ _ _ _ (first_in_rows (codes "rows") values) (first_in_rows (codes "cols") values) (first_in_rows (codes "keys") values)
-    (first_in_rows (codes "input") values) (first_in_rows (codes "program") values)
+given_by_values values =
+    given_same _ _ _ _ _ _ _ _ _ _ _ _ (first_in_rows (codes "rows") values) (first_in_rows (codes "cols") values)
+    (first_in_rows (codes "keys") values) (first_in_rows (codes "input") values) (first_in_rows (codes "make") values)
+    (first_in_rows (codes "program") values)
 
 -- what is refused of the words is refused of them from the first on
 fault_of_words : (words : List Text) → fault_of synth_app words ≡ fault_from synth_shape (walk_from nothing_held) words
@@ -175,8 +190,10 @@ clap_refuses words texts some =
 
 -- the texts of matches, by their rows
 pub given_by_rows : (found : Found) → given_of_matches found ≡ given_of_rows (rows_of found)
-given_by_rows found = given_same _ _ _ _ _ _ _ _ _ _ (first_value-rows found (codes "rows")) (first_value-rows found (codes "cols")) (first_value-rows found (codes "keys"))
-    (first_value-rows found (codes "input")) (first_value-rows found (codes "program"))
+given_by_rows found =
+    given_same _ _ _ _ _ _ _ _ _ _ _ _ (first_value-rows found (codes "rows")) (first_value-rows found (codes "cols"))
+    (first_value-rows found (codes "keys")) (first_value-rows found (codes "input"))
+    (first_value-rows found (codes "make")) (first_value-rows found (codes "program"))
 
 -- ---- at the command that clap was given
 

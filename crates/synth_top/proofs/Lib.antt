@@ -22,6 +22,15 @@ pub mod KeysInOrder
 -- `runs` of Editor::run: what a run has done, and the run byte by byte
 pub mod Courses
 pub mod EditorRuns
+-- `made` of the maker's calls: the text that makes a program, keys that are pressed for it, and what is counted
+pub mod MadeTexts
+pub mod MadeKeys
+-- `made` and `cause` of make, `source` and `read` of synth: what a making says of the sink and the source
+pub mod Makings
+-- `ended` of synth: the task that words ask for
+pub mod Tasks
+-- of lines_of: the line ends of a listing that are counted
+pub mod CountedLines
 -- `loads` of load_program: a program that was loaded, without its room
 pub mod FirstLoads
 -- `wanted` of load_first and `ended` of edit: the loads, the run and what is saved after it

@@ -38,12 +38,13 @@ use Rattle.synth_top.proofs.TurnsInOrder.{last_shown-append, painted_over-append
 -- ---- a tick, by what it answers
 
 -- one that is over is the last
-over_is_last : (steps : Steps) (left fetched : ℕ) (s : PlainSession) → (tick steps s).tick ≡ Tick.Over → ticks steps left fetched s ≡ last_tick fetched (tick steps s)
+pub over_is_last : (steps : Steps) (left fetched : ℕ) (s : PlainSession) → (tick steps s).tick ≡ Tick.Over
+    → ticks steps left fetched s ≡ last_tick fetched (tick steps s)
 over_is_last steps zero fetched s over = refl
 over_is_last steps (suc left) fetched s over = ap (λ (t : Tick). tick_by t fetched (tick steps s) (ticks steps left 0)) over
 
 -- after one that shows a step the others come
-again_goes_on : (steps : Steps) (left fetched : ℕ) (s : PlainSession) → (tick steps s).tick ≡ Tick.Again
+pub again_goes_on : (steps : Steps) (left fetched : ℕ) (s : PlainSession) → (tick steps s).tick ≡ Tick.Again
     → ticks steps (suc left) fetched s ≡ tick_before fetched (tick steps s) (ticks steps left 0 (tick steps s).after)
 again_goes_on steps left fetched s again = ap (λ (t : Tick). tick_by t fetched (tick steps s) (ticks steps left 0)) again
 
@@ -85,7 +86,7 @@ steps_keep steps (suc number) s =
     after_kept s (after_steps steps number s) (after_steps steps (suc number) s) (steps_keep steps number s) (tried_keeps steps (after_steps steps number s))
 
 -- the steps of a session with the same program and input are the same
-same_steps : (s t : PlainSession) → t.tree ≡ s.tree → t.input ≡ s.input → steps_of t ≡ steps_of s
+pub same_steps : (s t : PlainSession) → t.tree ≡ s.tree → t.input ≡ s.input → steps_of t ≡ steps_of s
 same_steps s t tree input = ap (λ x. program_steps x t.input) tree ∙ ap (λ x. program_steps s.tree x) input
 
 -- ---- steps of two sessions that have the same run and the same program

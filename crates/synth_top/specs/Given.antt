@@ -32,7 +32,8 @@ value_in_word word =
 -- whether one of the options to which words give values has the name
 abbrev pub is_option_name : List ℕ → Bool
 is_option_name name =
-    list_any (λ option. bytes_eq option name) (codes "rows" ∷ codes "cols" ∷ codes "keys" ∷ codes "input" ∷ [])
+    list_any (λ option. bytes_eq option name)
+    (codes "rows" ∷ codes "cols" ∷ codes "keys" ∷ codes "input" ∷ codes "make" ∷ [])
 
 -- ---- the values of all words
 
@@ -89,6 +90,7 @@ pub record PlainGiven : Type 0 where
   pub cols : Option (List ℕ)
   pub keys : Option (List ℕ)
   pub input : Option (List ℕ)
+  pub make : Option (List ℕ)
   pub program : Option (List ℕ)
 
 -- what words give, by their values with names
@@ -98,6 +100,7 @@ given_by values = record {
   cols = value_named (codes "cols") values;
   keys = value_named (codes "keys") values;
   input = value_named (codes "input") values;
+  make = value_named (codes "make") values;
   program = value_named (codes "program") values;
 }
 

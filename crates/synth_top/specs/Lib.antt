@@ -9,6 +9,10 @@ pub mod Turn
 -- ---- the files that are loaded first, and the one that is saved last
 pub mod Loads
 pub mod Rescue
+-- ---- a program that is made by the word `--make`
+pub mod MadeText
+pub mod Summary
+pub mod Making
 -- ---- whole runs
 pub mod Status
 pub mod Counted

@@ -6,3 +6,8 @@ pub mod Pressing
 pub mod PaintedScreen
 pub mod TicksShown
 pub mod EditorRuns
+pub mod MakingText
+pub mod MakingKeys
+pub mod MakingTicks
+pub mod CountedLines
+pub mod WrittenSummary

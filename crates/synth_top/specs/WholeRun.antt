@@ -19,11 +19,12 @@ use Rattle.synth_top.specs.declared.status.Status.{Status}
 use Rattle.synth_top.specs.declared.status.Status.TheVariants.{Done, ReadFault, WriteFault, NoMemory, BadWords, KeyLimit}
 use Rattle.synth_top.specs.Counted.{CountsFor, all_fetched}
 use Rattle.synth_top.specs.Keys.{IsFront, completed, keys}
+use Rattle.synth_top.specs.Making.{MadeAs, ToldMaking}
 use Rattle.synth_top.specs.Loads.{CanLoad, PlainFirstLoads, first_state, load_failures, opening_bill}
 use Rattle.synth_top.specs.Options.{PlainOptions}
 use Rattle.synth_top.specs.Rescue.{CountsRescueWant, IsRescue, Rescue, files_with, rescue_failure}
 use Rattle.synth_top.specs.Task.{PlainTask}
-use Rattle.synth_top.specs.Task.PlainTask.{Edit}
+use Rattle.synth_top.specs.Task.PlainTask.{Edit, Make}
 use Rattle.synth_top.specs.Turn.{AllCameToEnd, Bill, HasReply, HaveReplies, IsToldAs, LeftAtLast, PressedKey, EditorState, Shot, bill, bills, both_bills, state_after_keys, ends, failures, grids, keys_pressed, no_bill, pressed_whole, shot_of, shots, steps_of, turn}
 
 -- ---- what is written
@@ -321,7 +322,22 @@ abbrev pub Ended : Status → PlainOptions → (before now : Told) → (after_re
 Ended status options before now after_reads after_fault =
     NotOpened status options before now after_reads ⊎ Ran status options before now after_reads after_fault
 
+-- what a making changes of all that is told at a moment of a whole run
+abbrev pub told_making : Told → ToldMaking
+told_making told = record { taken = told.streams.taken; wants = told.streams.wants; counts = told.counts }
+
+-- a whole run that made a program of so many statements, as its status says: no byte of keys was read, and neither its
+-- files nor their counts were touched, also where memory ran out
+pub record MakingEnded (status : Status) (number : ℕ) (before now : Told) (after_reads : Type 0) : Type 0 where
+  pub made : MadeAs status number (told_making before) (told_making now)
+  pub left : now.streams.left ≡ before.streams.left
+  pub reads : now.streams.reads ≡ before.streams.reads
+  pub source : after_reads
+  pub files : now.files ≡ before.files
+
 -- the whole run for a task ended so
 abbrev pub TaskEnded : PlainTask → Status → (before now : Told) → (after_reads after_fault : Type 0) → Type 0
 TaskEnded (Edit options) status before now after_reads after_fault =
     Ended status options before now after_reads after_fault
+TaskEnded (Make number) status before now after_reads after_fault =
+    MakingEnded status number before now after_reads

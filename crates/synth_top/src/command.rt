@@ -23,6 +23,8 @@ pub struct Given<'a> {
     pub keys: Option<&'a str>,
     /// The name of the file with the program's input.
     pub input: Option<&'a str>,
+    /// How many statements a program has that is made.
+    pub make: Option<&'a str>,
     /// The name of the file with the program.
     pub program: Option<&'a str>,
 }
@@ -53,7 +55,7 @@ fn read_by<'a>(command: Command<'a>, words: &'a [String]) -> Result<Given<'a>, S
     }
 }
 
-/// The command as clap knows it: four options, and a word that stands by itself.
+/// The command as clap knows it: five options, and a word that stands by itself.
 fn synth_command<'a>(alloc: Global) -> Result<Command<'a>, AllocError>
     ensures { IfOk result (λ command. app_of command ≡ synth_app) }
 {
@@ -62,6 +64,7 @@ fn synth_command<'a>(alloc: Global) -> Result<Command<'a>, AllocError>
         .arg(option_named(alloc, "cols"))?
         .arg(option_named(alloc, "keys"))?
         .arg(option_named(alloc, "input"))?
+        .arg(option_named(alloc, "make"))?
         .arg(program_word(alloc))
 }
 
@@ -101,6 +104,7 @@ fn given_by<'a>(matches: &ArgMatches<'a>) -> Given<'a>
         cols: matches.get_str("cols"),
         keys: matches.get_str("keys"),
         input: matches.get_str("input"),
+        make: matches.get_str("make"),
         program: matches.get_str("program"),
     }
 }

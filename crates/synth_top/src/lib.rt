@@ -6,21 +6,24 @@ ghost use Rattle.synth_outside.specs.Cause.{RisesWith};
 ghost use Rattle.synth_top.specs.Private.PlainForms.{plain_options};
 ghost use Rattle.synth_top.specs.WholeRun.{Ended, TaskEnded};
 ghost use Rattle.synth_top.specs.Status.{LeftAs};
-ghost use Rattle.synth_top.specs.Task.{task_of};
+ghost use Rattle.synth_top.specs.Task.{IsMaking, task_of};
 
 mod command;
 mod editor;
 mod key;
 mod loading;
+mod maker;
 mod number;
 mod options;
 mod status;
+mod summary;
 mod task;
 mod words;
 
 use editor::Editor;
 pub use key::{KeyReader, Keys};
 use loading::load_first;
+use maker::make;
 use options::Options;
 use plcs_base::{OutOfMemory, Work};
 pub use status::Status;
@@ -42,6 +45,10 @@ pub use words::words_of;
 /// program is a new one, and its input is empty. Where a file is refused, the opening screen says so, and the
 /// session begins as without it.
 ///
+/// The words may be `--make N` instead, and nothing else. Then a program of N statements more is made, run and
+/// summarized: keys for it are pressed on a session of 24 rows and 80 columns without a screen, and four lines of a
+/// summary are written. No key is read, no file is touched, and nothing is saved where memory runs out.
+///
 /// Where memory runs out while a session is open, its program is saved under the name `RESCUE`, as far as the
 /// files allow. Where source, sink or files tell nothing of their bytes, what is claimed of the others stands all
 /// the same.
@@ -57,6 +64,10 @@ pub fn synth<S: Source, K: Sink, F: Files, W: Work>(
     ensures bad_words { task_of (map string_bytes words.now) ≡ None →
         ((result ≡ Status.BadWords) ⊎ (result ≡ Status.NoMemory))
         × (keys.new ≡ keys.old) × (screen.new ≡ screen.old) × (files.new ≡ files.old) × (work.new ≡ work.old) }
+
+    // Where a program is made, neither keys nor files are touched.
+    ensures untouched { IsMaking (task_of (map string_bytes words.now)) →
+        (keys.new ≡ keys.old) × (files.new ≡ files.old) }
 
     // With words of the command the task that they ask for was done as its record says, and ended as the status says.
     ensures ended { IfSome (task_of (map string_bytes words.now)) (λ task.
@@ -93,6 +104,7 @@ pub fn synth<S: Source, K: Sink, F: Files, W: Work>(
 {
     match task_of(alloc, words) {
         Ok(Task::Edit(options)) => edit(alloc, &options, keys, screen, files, work),
+        Ok(Task::Make(number)) => make(alloc, number, screen, work),
         Err(status) => status,
     }
 }

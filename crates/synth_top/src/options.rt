@@ -17,10 +17,10 @@ const FEWEST_KEYS: u32 = 1;
 const MOST_KEYS: u32 = 1_000_000_000;
 
 /// How many rows a screen has where no option says it.
-const USUAL_ROWS: u16 = 24;
+pub const USUAL_ROWS: u16 = 24;
 
 /// How many columns a screen has where no option says it.
-const USUAL_COLS: u16 = 80;
+pub const USUAL_COLS: u16 = 80;
 
 /// The options: what the words ask for.
 #[derive(Clone, Copy, Debug)]
@@ -80,7 +80,7 @@ fn count_given(least: u32, most: u32, usual: u32, word: Option<&str>) -> Option<
 
 /// The number that a word asks for as the option of a run, where it lies between the two bounds, which are part
 /// of the range.
-fn count_between(least: u32, most: u32, word: &str) -> Option<u32>
+pub fn count_between(least: u32, most: u32, word: &str) -> Option<u32>
     ensures value { result ≡ count_between least most word.now }
     ensures range { IfSome result (λ n. (least ≤ n) × (n ≤ most)) }
 {

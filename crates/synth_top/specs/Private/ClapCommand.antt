@@ -13,10 +13,11 @@ option_rule name = record (new_rule name) { long = Some name }
 abbrev pub bare_app : App
 bare_app = on_top (λ shape. record shape { no_binary_name = true; disable_help_flag = true; disable_version_flag = true }) (new_app (codes "synth"))
 
--- the command as clap knows it: four options, and a word that stands by itself
+-- the command as clap knows it: five options, and a word that stands by itself
 abbrev pub synth_app : App
 synth_app =
     with_rule
+    (with_rule
     (with_rule
     (with_rule
     (with_rule
@@ -24,6 +25,7 @@ synth_app =
     (option_rule (codes "cols")))
     (option_rule (codes "keys")))
     (option_rule (codes "input")))
+    (option_rule (codes "make")))
     (new_rule (codes "program"))
 
 -- what clap's matches give
@@ -33,6 +35,7 @@ given_of_matches found = record {
   cols = first_value found (codes "cols");
   keys = first_value found (codes "keys");
   input = first_value found (codes "input");
+  make = first_value found (codes "make");
   program = first_value found (codes "program");
 }
 
@@ -43,5 +46,6 @@ given_of_rows rows = record {
   cols = first_of (codes "cols") rows;
   keys = first_of (codes "keys") rows;
   input = first_of (codes "input") rows;
+  make = first_of (codes "make") rows;
   program = first_of (codes "program") rows;
 }

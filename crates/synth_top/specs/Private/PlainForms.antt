@@ -20,6 +20,7 @@ plain_given g = record {
   cols = option_map (λ text. text.now) g.cols;
   keys = option_map (λ text. text.now) g.keys;
   input = option_map (λ text. text.now) g.input;
+  make = option_map (λ text. text.now) g.make;
   program = option_map (λ text. text.now) g.program;
 }
 
@@ -35,6 +36,7 @@ plain_options o = record {
 -- the plain form of a task
 abbrev pub plain_task : Task → PlainTask
 plain_task (Task.Edit options) = PlainTask.Edit (plain_options options)
+plain_task (Task.Make number) = PlainTask.Make number
 
 -- the plain form of what came of loading the program: a tree without its room
 abbrev pub program_reply : FileLoad PlainTree → Reply

@@ -10,4 +10,8 @@ returns c =
     let cols = c.in_ok-arg-2.ensures.shape c.option_named-2.ensures.local ∙ ap₂ with_rule rows c.option_named-2.ensures.rule in
     let keys = c.in_ok-arg-3.ensures.shape c.option_named-3.ensures.local ∙ ap₂ with_rule cols c.option_named-3.ensures.rule in
     let input = c.in_ok-arg-4.ensures.shape c.option_named-4.ensures.local ∙ ap₂ with_rule keys c.option_named-4.ensures.rule in
-    IfOk-weaker c.arg-5.result _ _ (λ command adds. adds.shape c.program_word.ensures.local ∙ ap₂ with_rule input c.program_word.ensures.rule) c.arg-5.ensures
+    let make = c.in_ok-arg-5.ensures.shape c.option_named-5.ensures.local
+    ∙ ap₂ with_rule input c.option_named-5.ensures.rule in
+    IfOk-weaker c.arg-6.result _ _
+    (λ command adds. adds.shape c.program_word.ensures.local ∙ ap₂ with_rule make c.program_word.ensures.rule)
+    c.arg-6.ensures
