@@ -1,4 +1,5 @@
--- `History::held`, `note`, `back`: the configurations before a run's, of which the oldest are let go and the latest is gone back to.
+-- `History::held`, `note`, `back`: the configurations before a run's, of which the oldest are let go and the latest is
+-- gone back to.
 use Rattle.std.specs.Prelude.{◌≡◌, refl, ℕ, zero, suc, List, [], ◌∷◌, length, take, drop, slice_get, Some}
 use Rattle.std.proofs.Common.{ap, sym, ◌∙◌}
 use Rattle.std.proofs.lemmas.List.Elements.{All-cons, All-rest, All-same, All-take}

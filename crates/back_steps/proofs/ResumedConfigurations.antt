@@ -1,5 +1,6 @@
--- `resuming_leaves_earlier`: to resume a run changes at most the place of its newest frame, and each record of a step puts that
--- frame at a place of its own or takes it off. A cell and the place of the newest frame are changed independently of each other.
+-- `resuming_leaves_earlier`: to resume a run changes at most the place of its newest frame, and each record of a step
+-- puts that frame at a place of its own or takes it off. A cell and the place of the newest frame are changed
+-- independently of each other.
 use Rattle.std.specs.Prelude.{◌≡◌, refl, ℕ, zero, suc, ◌-◌, List, [], ◌∷◌, ◌++◌, take}
 use Rattle.std.proofs.Common.{ap, sym, ◌∙◌}
 use Rattle.plcs_base.specs.declared.place.Place.{Place}

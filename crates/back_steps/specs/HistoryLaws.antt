@@ -12,8 +12,9 @@ use Rattle.back_steps.specs.EarlierConfigurations.{configurations_before}
 abbrev pub IsRecorded : Undo → Type 0
 IsRecorded undo = undo ≢ Undo.Empty
 
--- a run that is resumed in a program, whatever was edited, has the configurations before it that it had when it was suspended,
--- if its latest record is one of a step: what that gives back doesn't depend on where in its newest frame the run goes on
+-- a run that is resumed in a program, whatever was edited, has the configurations before it that it had when it was
+-- suspended, if its latest record is one of a step: what that gives back doesn't depend on where in its newest frame
+-- the run goes on
 abbrev pub ResumingLeavesEarlier : Type 0
 ResumingLeavesEarlier =
     (program : Forest) (undo : Undo) (undos : List Undo) (c : PlainConfiguration) → IsRecorded undo

@@ -1,5 +1,5 @@
--- Pairs of which each fragment is changed by a function that keeps the number of slots, as where it loses its room or what is
--- elided in it.
+-- Pairs of which each fragment is changed by a function that keeps the number of slots, as where it loses its room or
+-- what is elided in it.
 use Rattle.std.specs.Prelude.{◌≡◌, refl, ℕ, ◌+◌, Bool, true, false, cond, if◌then◌else◌, ◌||◌, nat_le, nat_lt, List, [], ◌∷◌, length, map, Some, option_map}
 use Rattle.std.proofs.Common.{ap, ◌∙◌, arith}
 use Rattle.std.specs.Map.{values_of}

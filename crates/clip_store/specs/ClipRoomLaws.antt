@@ -1,4 +1,5 @@
--- The laws of room for clips: how a fragment is found, put, counted and made whole doesn't depend on the room of its lists.
+-- The laws of room for clips: how a fragment is found, put, counted and made whole doesn't depend on the room of its
+-- lists.
 use Rattle.std.specs.Prelude.{◌≡◌, ℕ, List, option_map}
 use Rattle.clip_store.specs.PlainFragment.{PlainFragment, roomless_fragment, slots_of, whole_fragment}
 use Rattle.clip_store.specs.PlainClips.{Pair, clip_named, roomless_pairs, with_clip}

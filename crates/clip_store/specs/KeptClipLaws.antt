@@ -1,5 +1,5 @@
--- The laws of clips as they are kept, whole and without room: how a fragment is found, put and counted doesn't depend on what
--- was elided in it.
+-- The laws of clips as they are kept, whole and without room: how a fragment is found, put and counted doesn't depend
+-- on what was elided in it.
 use Rattle.std.specs.Prelude.{◌≡◌, ℕ, List, option_map}
 use Rattle.clip_store.specs.PlainFragment.{PlainFragment, kept_fragment, slots_of, whole_fragment}
 use Rattle.clip_store.specs.PlainClips.{Pair, clip_named, kept_pairs, with_clip}

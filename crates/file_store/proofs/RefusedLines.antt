@@ -1,4 +1,5 @@
--- Lines that are refused: those that weren't read, those with which no listing goes on, and the end of what is no listing.
+-- Lines that are refused: those that weren't read, those with which no listing goes on, and the end of what is no
+-- listing.
 use Rattle.std.specs.Prelude.{◌≡◌, refl, ℕ, ◌+◌, ◌≤◌, List, [], length}
 use Rattle.std.proofs.Common.{ap, sym, ◌∙◌}
 use Rattle.phrase_parser.specs.declared.not_read.NotRead.{NotRead}

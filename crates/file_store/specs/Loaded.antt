@@ -66,8 +66,8 @@ NextLine x P =
     (rows : List ListedLine) × (row : ListedLine) × (rest : List ℕ)
     × Fine x rows (line_bytes row.line ++ (10 ∷ rest)) × BeginsListing (rows ++ (row ∷ [])) × P rows row
 
--- the bytes are refused for this: they are too many; else the first line in which trouble stands decides. In one line it
--- is first that no listing goes on so, then the depth, then the number of nodes
+-- the bytes are refused for this: they are too many; else the first line in which trouble stands decides. In one line
+-- it is first that no listing goes on so, then the depth, then the number of nodes
 abbrev pub Refused : List ℕ → FileRefusal → Type 0
 Refused x FileRefusal.TooLong = longest_listing < length x
 Refused x (FileRefusal.NotAListing k) =

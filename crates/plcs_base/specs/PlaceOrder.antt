@@ -32,7 +32,10 @@ same_place x y same = by (nat_cmp x.slot.0 y.slot.0) (nat_cmp x.part y.part) ref
     by : (a b : Ordering) → nat_cmp x.slot.0 y.slot.0 ≡ a → nat_cmp x.part y.part ≡ b
         → is_eq (ordering_then a b) ≡ true → x ≡ y
     by Equal Equal e f same =
-        λ i. record { slot = record { 0 = nat_cmp-IsAntisymmetric x.slot.0 y.slot.0 e i }; part = nat_cmp-IsAntisymmetric x.part y.part f i }
+        λ i. record {
+          slot = record { 0 = nat_cmp-IsAntisymmetric x.slot.0 y.slot.0 e i };
+          part = nat_cmp-IsAntisymmetric x.part y.part f i;
+        }
     by Less b e f same = never same
     by Greater b e f same = never same
     by Equal Less e f same = never same

@@ -1,5 +1,5 @@
--- Code looks at the content of nodes alone, and of the map of items at those of the nodes' slots: so programs of the same content have
--- the same code by maps that have the same for each slot.
+-- Code looks at the content of nodes alone, and of the map of items at those of the nodes' slots: so programs of the
+-- same content have the same code by maps that have the same for each slot.
 use Rattle.std.proofs.Common.{◌≡◌, ℕ, ◌+◌, List, ◌∷◌, ◌++◌, length, map, refl, ap, sym, ◌∙◌}
 use Rattle.std.specs.Prelude.{flat_map, sum}
 use Rattle.std.specs.FinMap.{from_entries}

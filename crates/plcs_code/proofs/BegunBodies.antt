@@ -1,5 +1,5 @@
--- The law `bodies_begin`: what stands inside a node begins with the step at which a run begins that comes to it. Declarations before
--- it have no code.
+-- The law `bodies_begin`: what stands inside a node begins with the step at which a run begins that comes to it.
+-- Declarations before it have no code.
 use Rattle.std.proofs.Common.{◌≡◌, ℕ, ◌+◌, Bool, true, false, ◌⊎◌, inl, inr, List, [], ◌∷◌, ◌++◌, length, Some, refl, ap, sym, subst, ◌∙◌, arith}
 use Rattle.std.specs.Prelude.{◌||◌, flat_map, if◌then◌else◌, is_some, slice_get, take}
 use Rattle.std.specs.FinMap.{get-from_entries}
@@ -34,7 +34,8 @@ or_false true other e both = absurd (false≢true (sym e))
 or_false false other e both = both
 
 module _ (marks : MarkMap) (items : ItemMap) (instrs : List PlainInstr) where
-  -- nodes with a statement among them, declarations before it, begin with the step at which a run begins that comes to them
+  -- nodes with a statement among them, declarations before it, begin with the step at which a run begins that comes to
+  -- them
   nodes_read : (start : ℕ) (nodes : Forest) (behind : PlainPlace) → AreNodes nodes → AreBodies (sorts nodes)
       → list_any is_statement (sorts nodes) ≡ true → StandsAt instrs start (codes_joined (node_codes marks items nodes))
       → slice_get instrs start ≡ Some (PlainInstr.place (begin nodes behind))

@@ -1,5 +1,5 @@
--- Where code begins. The code of each statement begins with the step at its start, but for a group and a comment: these begin with
--- the code of their first item, at which a run begins that comes to them.
+-- Where code begins. The code of each statement begins with the step at its start, but for a group and a comment: these
+-- begin with the code of their first item, at which a run begins that comes to them.
 use Rattle.std.proofs.Common.{◌≡◌, ℕ, ◌≤◌, ◌<◌, Bool, true, false, List, [], ◌∷◌, ◌++◌, length, map, take, Option, Some, None, refl, ap, sym, subst, ◌∙◌, arith}
 use Rattle.std.specs.Prelude.{if◌then◌else◌, is_some, slice_get, slice_index_or}
 use Rattle.std.specs.Option.{option_to_list}

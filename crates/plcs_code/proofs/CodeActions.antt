@@ -1,5 +1,5 @@
--- The code of phrases neither jumps nor ends a step: it only works on values. So each jump and each place of a node's code is
--- one that its row of the table says.
+-- The code of phrases neither jumps nor ends a step: it only works on values. So each jump and each place of a node's
+-- code is one that its row of the table says.
 use Rattle.std.proofs.Common.{◌≡◌, ℕ, Bool, true, false, List, [], ◌∷◌, ◌++◌, Option, Some, None, refl}
 use Rattle.std.specs.Prelude.{bytes_eq, flat_map, if◌then◌else◌, ◌==◌}
 use Rattle.std.specs.List.{list_any}

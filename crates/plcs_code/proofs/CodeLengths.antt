@@ -1,5 +1,5 @@
--- How long codes are. A node has its jumps whatever stands inside it, and each is one instruction however far it goes; so its own
--- code is as long, and a code is as long as a node's own code and the codes inside it together.
+-- How long codes are. A node has its jumps whatever stands inside it, and each is one instruction however far it goes;
+-- so its own code is as long, and a code is as long as a node's own code and the codes inside it together.
 use Rattle.std.proofs.Common.{ℕ, ◌+◌, ◌≡◌, Bool, true, false, List, [], ◌∷◌, ◌++◌, length, map, take, Option, Some, None, refl, ap, sym, ◌∙◌, arith}
 use Rattle.std.specs.Prelude.{is_some, option_map, sum}
 use Rattle.std.specs.Option.{option_to_list}

@@ -1,5 +1,6 @@
--- The maps of code, by what their entries are. A map in memory finds by a test of keys what the finite map finds by their order,
--- so what is put into the one is put into the other; and a map that is filled from its last entry on is that of the entries.
+-- The maps of code, by what their entries are. A map in memory finds by a test of keys what the finite map finds by
+-- their order, so what is put into the one is put into the other; and a map that is filled from its last entry on is
+-- that of the entries.
 use Rattle.std.proofs.Common.{◌≡◌, Bool, true, false, cond, List, [], ◌∷◌, ◌++◌, Option, Some, None, refl, sym, ap, ◌∙◌}
 use Rattle.std.specs.Prelude.{is_some}
 use Rattle.std.specs.Cmp.{IsTotalOrder}

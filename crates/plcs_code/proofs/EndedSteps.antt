@@ -1,6 +1,6 @@
--- Where steps end in a node's own code: at the places that a run has in the node, but for the start of a group or a comment, which is
--- that of its first item, and for where a call comes back. A GET has a place for each variable of its list, of which there is one
--- at least.
+-- Where steps end in a node's own code: at the places that a run has in the node, but for the start of a group or a
+-- comment, which is that of its first item, and for where a call comes back. A GET has a place for each variable of its
+-- list, of which there is one at least.
 use Rattle.std.proofs.Common.{◌≡◌, ℕ, zero, suc, ◌+◌, ◌<◌, ◌≤◌, Bool, true, false, ◌⊎◌, inl, inr, List, [], ◌∷◌, ◌++◌, length, take, Option, Some, None, refl, sym, subst, arith}
 use Rattle.std.specs.Prelude.{◌&&◌, ◌||◌, ◌==◌, IsTrue, flat_map, if◌then◌else◌, nat_lt, not, unwrap_or}
 use Rattle.std.proofs.Math.Bool.{false≢true}

@@ -1,5 +1,5 @@
--- The definitions at work: the code of an expression, of a call of a procedure, and of a While before and after the PUT in
--- it grew; and where a second body stands, and which of two headings of a name counts.
+-- The definitions at work: the code of an expression, of a call of a procedure, and of a While before and after the PUT
+-- in it grew; and where a second body stands, and which of two headings of a name counts.
 use Rattle.std.specs.Prelude.{◌≡◌, refl, ℕ, pos, negsuc, true, false, List, [], ◌∷◌, codes, Option, Some, None}
 use Rattle.std.specs.FinMap.{empty, from_entries, get, gets}
 use Rattle.plcs_base.specs.Mark.{MarkMap}

@@ -1,6 +1,6 @@
--- The node of a slot among the spans of nodes. Spans and codes go through a program by one recursion, and what stands among
--- instructions at an address has each of its pieces there, so the code of each node stands where its span says. The first node in a
--- slot is the one at the site of the slot.
+-- The node of a slot among the spans of nodes. Spans and codes go through a program by one recursion, and what stands
+-- among instructions at an address has each of its pieces there, so the code of each node stands where its span says.
+-- The first node in a slot is the one at the site of the slot.
 use Rattle.std.proofs.Common.{◌≡◌, ℕ, ◌+◌, ◌≤◌, Bool, true, false, List, [], ◌∷◌, ◌++◌, length, map, Option, Some, None, refl, ap, sym, subst, ◌∙◌, arith}
 use Rattle.std.specs.Prelude.{◌==◌, if◌then◌else◌}
 use Rattle.std.specs.Option.{option_or, option_to_list}

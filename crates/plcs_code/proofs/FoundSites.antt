@@ -1,5 +1,5 @@
--- The site of a slot among nodes: it is that of the first node in the slot, so it is found in a node, inside it or behind it. A
--- slot has a site exactly where it stands once or more.
+-- The site of a slot among nodes: it is that of the first node in the slot, so it is found in a node, inside it or
+-- behind it. A slot has a site exactly where it stands once or more.
 use Rattle.std.proofs.Common.{◌≡◌, ℕ, ◌≤◌, Bool, true, false, ◌⊎◌, inl, inr, Option, Some, None, refl, ap, sym, subst, ◌∙◌, arith}
 use Rattle.std.specs.Prelude.{◌==◌, if◌then◌else◌}
 use Rattle.std.specs.Option.{option_or}

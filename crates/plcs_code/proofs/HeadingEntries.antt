@@ -1,5 +1,5 @@
--- The entries of code. Headings that are listed by name are effective by the same tests as those of signatures, the first of a name
--- first; and main and the procedures begin where their spans do, since nothing stands between them.
+-- The entries of code. Headings that are listed by name are effective by the same tests as those of signatures, the
+-- first of a name first; and main and the procedures begin where their spans do, since nothing stands between them.
 use Rattle.std.proofs.Common.{◌≡◌, ℕ, ◌+◌, ◌≤◌, Bool, true, false, List, [], ◌∷◌, ◌++◌, Option, Some, None, refl, ap, sym, ◌∙◌, arith}
 use Rattle.std.specs.Prelude.{◌&&◌, ◌==◌, bytes_eq, cond, flat_map, if◌then◌else◌, option_and_then, option_map}
 use Rattle.std.specs.FinMap.{find, get-from_entries}

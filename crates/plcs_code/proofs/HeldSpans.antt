@@ -1,5 +1,5 @@
--- The span of a slot holds the code of what stands there: it is that of the first node in the slot, whose code stands where its
--- span says.
+-- The span of a slot holds the code of what stands there: it is that of the first node in the slot, whose code stands
+-- where its span says.
 use Rattle.std.proofs.Common.{◌≡◌, ℕ, ◌≤◌, Bool, true, false, List, [], ◌∷◌, ◌++◌, Option, Some, None, refl, ap, sym, ◌∙◌, append_assoc, arith}
 use Rattle.std.specs.Prelude.{◌==◌, cond, flat_map, if◌then◌else◌}
 use Rattle.std.specs.FinMap.{find, get-from_entries, nat_cmp-IsAntisymmetric}

@@ -1,5 +1,5 @@
--- Where a run goes on at the end of what stands inside a node: at the step that ends there, by the node's own jump, or where it goes
--- on behind the node, at whose end it stands. The kinds of nodes matter here alone.
+-- Where a run goes on at the end of what stands inside a node: at the step that ends there, by the node's own jump, or
+-- where it goes on behind the node, at whose end it stands. The kinds of nodes matter here alone.
 use Rattle.std.proofs.Common.{◌≡◌, ℕ, zero, suc, ◌+◌, ◌<◌, true, List, [], ◌∷◌, ◌++◌, length, map, Option, Some, None, refl, ap, subst, arith}
 use Rattle.std.specs.Prelude.{ℤ, ◌+ℤ◌, pos, neg_ℤ, is_some, slice_get, sum}
 use Rattle.std.specs.Option.{option_to_list}

@@ -1,5 +1,6 @@
--- Code laid node by node. Each step puts some code and some spans behind those that are there; where the steps of a node, or of
--- nodes in turn, are done, what came is what the definitions say, and as long as the lengths that were counted ahead.
+-- Code laid node by node. Each step puts some code and some spans behind those that are there; where the steps of a
+-- node, or of nodes in turn, are done, what came is what the definitions say, and as long as the lengths that were
+-- counted ahead.
 use Rattle.std.proofs.Common.{ℕ, ◌+◌, ◌≡◌, ◌≤◌, List, [], ◌∷◌, ◌++◌, length, map, refl, ap, sym, ◌∙◌, arith, append_assoc}
 use Rattle.std.specs.Prelude.{sum}
 use Rattle.std.specs.Option.{option_to_list}

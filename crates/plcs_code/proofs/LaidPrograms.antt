@@ -1,4 +1,5 @@
--- The code of a program, main and then each procedure: what is laid of those that are left, and the headings that are noted.
+-- The code of a program, main and then each procedure: what is laid of those that are left, and the headings that are
+-- noted.
 use Rattle.std.proofs.Common.{ℕ, ◌+◌, ◌≡◌, List, [], ◌∷◌, ◌++◌, drop, length, Some, slice_get, refl, ap, sym, ◌∙◌, arith}
 use Rattle.std.specs.FinMap.{empty, from_entries}
 use Rattle.std.proofs.lemmas.List.{append-nil, length-append}

@@ -1,5 +1,5 @@
--- The steps by which code is laid, put together: the lengths that are taken, what is laid in the end, and what was counted where
--- it broke off.
+-- The steps by which code is laid, put together: the lengths that are taken, what is laid in the end, and what was
+-- counted where it broke off.
 use Rattle.std.proofs.Common.{ℕ, ◌+◌, ◌≡◌, ◌≤◌, List, [], ◌∷◌, ◌++◌, drop, length, Option, Some, slice_get, refl, ap, subst, sym, ◌∙◌, arith, append_assoc}
 use Rattle.std.specs.Prelude.{sum}
 use Rattle.std.specs.Option.{option_to_list}

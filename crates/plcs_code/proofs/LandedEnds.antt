@@ -1,5 +1,6 @@
--- The law `statements_go_on`: at the end of the code of each statement a run goes on where it does once that is done. What stands
--- inside a node goes on by the kind of the node; in a list each goes on at the next one, which begins where it ends.
+-- The law `statements_go_on`: at the end of the code of each statement a run goes on where it does once that is done.
+-- What stands inside a node goes on by the kind of the node; in a list each goes on at the next one, which begins where
+-- it ends.
 use Rattle.std.proofs.Common.{◌≡◌, ℕ, suc, ◌+◌, ◌<◌, Bool, true, false, ◌⊎◌, inl, inr, List, [], ◌∷◌, ◌++◌, length, map, take, Option, Some, None, refl, ap, sym, subst, ◌∙◌, arith}
 use Rattle.std.specs.Prelude.{◌==◌, flat_map, if◌then◌else◌, is_some, pos, slice_index_or, sum}
 use Rattle.std.specs.FinMap.{get-from_entries}

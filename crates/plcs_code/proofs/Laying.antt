@@ -1,5 +1,6 @@
--- Several instructions laid in turn. All that lays code does so one instruction after the other, whatever it lays them into: so
--- what is laid is joined by one lemma, and what that makes of a draft or of a tally is found by one induction each.
+-- Several instructions laid in turn. All that lays code does so one instruction after the other, whatever it lays them
+-- into: so what is laid is joined by one lemma, and what that makes of a draft or of a tally is found by one induction
+-- each.
 use Rattle.std.proofs.Common.{ℕ, ◌+◌, ◌≤◌, false, List, [], ◌∷◌, ◌++◌, length, ◌≡◌, refl, subst, ap, sym, ◌∙◌, arith, append_assoc}
 use Rattle.std.proofs.lemmas.List.{append-nil}
 use Rattle.plcs_base.specs.Count.{raised_by}

@@ -4,8 +4,8 @@ mod Limits
 mod Examples
 -- `show_instr`: texts of instructions that are known in another way
 pub mod ShownInstrs
--- each clause on what is laid: instructions laid in turn, into a draft or into a tally, lists of phrases, and arguments that
--- are passed by a dummy
+-- each clause on what is laid: instructions laid in turn, into a draft or into a tally, lists of phrases, and arguments
+-- that are passed by a dummy
 pub mod Laying
 pub mod LaidLists
 pub mod DummyArguments

@@ -1,5 +1,5 @@
--- The law `steps_have_addresses`: a step that stands in the code of a program stands there but once, where its slot does: each place is
--- that of one step of the own code of its node.
+-- The law `steps_have_addresses`: a step that stands in the code of a program stands there but once, where its slot
+-- does: each place is that of one step of the own code of its node.
 use Rattle.std.proofs.Common.{◌≡◌, ℕ, zero, suc, ◌+◌, ◌≤◌, ◌<◌, Bool, true, false, List, [], ◌∷◌, ◌++◌, length, map, take, Option, Some, None, refl, ap, sym, ◌∙◌, arith}
 use Rattle.std.specs.Prelude.{◌==◌, ◌&&◌, cond, flat_map, option_map, slice_get, unwrap_or}
 use Rattle.std.specs.FinMap.{find, get-from_entries}

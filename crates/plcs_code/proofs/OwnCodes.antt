@@ -1,4 +1,5 @@
--- The code of a program is as long as the own codes of all its nodes together: the code of a node is its own and those inside it.
+-- The code of a program is as long as the own codes of all its nodes together: the code of a node is its own and those
+-- inside it.
 use Rattle.std.proofs.Common.{◌≡◌, ◌+◌, length, Option, refl, ap, ◌∙◌, arith}
 use Rattle.std.specs.Prelude.{sum}
 use Rattle.std.proofs.lemmas.List.Sums.{sum_by-cons}

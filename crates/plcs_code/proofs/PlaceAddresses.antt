@@ -1,6 +1,6 @@
--- A place exists exactly where it has an address. The addresses are those of the steps that end in the code, and those of nodes at
--- which none ends. Each of both is of a node, and the places of a node are those that a run has there; and the node of a slot that
--- stands but once is the one at the site of the slot.
+-- A place exists exactly where it has an address. The addresses are those of the steps that end in the code, and those
+-- of nodes at which none ends. Each of both is of a node, and the places of a node are those that a run has there; and
+-- the node of a slot that stands but once is the one at the site of the slot.
 use Rattle.std.proofs.Common.{◌≡◌, ℕ, ◌+◌, Bool, true, false, ◌⊎◌, inl, inr, List, [], ◌∷◌, ◌++◌, length, map, take, Option, Some, None, refl, ap, sym, subst, ◌∙◌, append_assoc}
 use Rattle.std.specs.Prelude.{◌&&◌, ◌||◌, ◌==◌, IsSome, IsTrue, cond, flat_map, if◌then◌else◌, is_some, option_map}
 use Rattle.std.specs.FinMap.{find, get-from_entries}

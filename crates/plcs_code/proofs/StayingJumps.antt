@@ -1,6 +1,6 @@
--- Each jump of a node's code stays in it. A jump goes by the lengths of what it leaves out, so its target is told by where it
--- stands: at the end of the first body, of all, or where the loop tests again. All the rest of a node's own code jumps nowhere, and
--- the jumps of what stands inside it stay there.
+-- Each jump of a node's code stays in it. A jump goes by the lengths of what it leaves out, so its target is told by
+-- where it stands: at the end of the first body, of all, or where the loop tests again. All the rest of a node's own
+-- code jumps nowhere, and the jumps of what stands inside it stay there.
 use Rattle.std.proofs.Common.{◌≡◌, ℕ, zero, suc, ◌+◌, ◌≤◌, Bool, true, false, List, [], ◌∷◌, ◌++◌, length, map, Option, Some, None, refl, sym, subst, arith}
 use Rattle.std.specs.Prelude.{ℤ, ◌+ℤ◌, pos, All, flat_map, is_some, option_and_then, slice_get, sum, take, unwrap_or}
 use Rattle.std.specs.Option.{option_to_list}

@@ -1,5 +1,6 @@
--- What stands at the address of a place. A step that ends at a place has the address at which it stands in the code; the start of a
--- group or a comment, and where a call comes back, have the ends of their spans, which are those of the first node in the slot.
+-- What stands at the address of a place. A step that ends at a place has the address at which it stands in the code;
+-- the start of a group or a comment, and where a call comes back, have the ends of their spans, which are those of the
+-- first node in the slot.
 use Rattle.std.proofs.Common.{◌≡◌, ℕ, zero, suc, ◌+◌, ◌≤◌, Bool, true, false, List, [], ◌∷◌, ◌++◌, Option, Some, None, refl, ap, sym, subst, ◌∙◌, arith}
 use Rattle.std.specs.Prelude.{◌&&◌, ◌==◌, IsSome, cond, flat_map, if◌then◌else◌, not, slice_get}
 use Rattle.std.specs.FinMap.{find, get-from_entries}

@@ -80,8 +80,8 @@ abbrev pub site_code : MarkMap → ItemMap → Option Site → List PlainInstr
 site_code marks items None = []
 site_code marks items (Some site) = own_instrs marks items site.label (node_lengths marks items site.inner)
 
--- the own code of a slot of the program: the code of what stands there, without that of its bodies and items; none where
--- the slot isn't live, or where a declaration or a hole for a procedure stands
+-- the own code of a slot of the program: the code of what stands there, without that of its bodies and items; none
+-- where the slot isn't live, or where a declaration or a hole for a procedure stands
 abbrev pub own_code : MarkMap → ItemMap → (program : Forest) → (slot : ℕ) → List PlainInstr
 own_code marks items program slot = site_code marks items (site program slot)
 
@@ -146,8 +146,8 @@ abbrev pub is_call : NodeKind → Bool
 is_call (NodeKind.Filled Template.Call) = true
 is_call other = false
 
--- the addresses of a node, by its places at which no step ends: a group's or a comment's start is that of its first item,
--- and a call comes back behind its code
+-- the addresses of a node, by its places at which no step ends: a group's or a comment's start is that of its first
+-- item, and a call comes back behind its code
 abbrev pub node_address : NodeSpan → List (Place × ℕ)
 node_address node =
     if passes_in node.kind then (place_of (place_at node.slot.0 0), node.start) ∷ []

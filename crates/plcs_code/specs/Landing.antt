@@ -19,7 +19,8 @@ use Rattle.plcs_code.specs.PlainInstr.{PlainInstr, place_of}
 
 -- ---- by jumps alone
 
--- a run that comes to the address comes by so many jumps, and by no other instruction, to the step that ends at the place
+-- a run that comes to the address comes by so many jumps, and by no other instruction, to the step that ends at the
+-- place
 abbrev pub LandsBy : List PlainInstr → PlainPlace → (jumps address : ℕ) → Type 0
 LandsBy instrs place zero address = slice_get instrs address ≡ Some (PlainInstr.place place)
 LandsBy instrs place (suc jumps) address =
@@ -27,8 +28,8 @@ LandsBy instrs place (suc jumps) address =
     × (pos target ≡ pos (address + 1) +ℤ d)
     × LandsBy instrs place jumps target
 
--- a run that comes to the address comes to the step that ends at the place by jumps alone, which are fewer than the instructions
--- from the address on
+-- a run that comes to the address comes to the step that ends at the place by jumps alone, which are fewer than the
+-- instructions from the address on
 pub record Lands (instrs : List PlainInstr) (address : ℕ) (place : PlainPlace) : Type 0 where
   pub jumps : ℕ
   pub few : address + jumps < length instrs
@@ -71,7 +72,8 @@ SecondBodiesBegin =
     → found.inner ≡ Forest.cons first within rest
     → (start count : ℕ) × (get (Gen marks items program).spans slot ≡ Some (start, count))
     × (slice_get (Gen marks items program).instrs
-    (start + length_before marks items found.label found.inner + length_around marks items first (node_lengths marks items within) + 1)
+    (start + length_before marks items found.label found.inner
+    + length_around marks items first (node_lengths marks items within) + 1)
     ≡ Some (PlainInstr.place (begin rest behind)))
 
 -- ---- where steps stand

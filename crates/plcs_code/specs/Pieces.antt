@@ -188,9 +188,9 @@ back_jump back = Some (PlainInstr.jump (neg_ℤ (pos back)))
 
 -- ---- the table of jumps
 
--- the jumps of a node of the template in a slot, which counts with the variable, if it is there; where the piece that needs
--- all its parts is stopped or not, and the one that needs the first; where so many instructions stand before what is
--- inside, of which the first node has code of one length, and the others together of another
+-- the jumps of a node of the template in a slot, which counts with the variable, if it is there; where the piece that
+-- needs all its parts is stopped or not, and the one that needs the first; where so many instructions stand before what
+-- is inside, of which the first node has code of one length, and the others together of another
 abbrev pub template_jumps : (slot : ℕ) (counter : Option (List ℕ)) (all one : Bool) (before first others : ℕ)
     → Template → CodeJumps
 template_jumps slot counter all one before first others Template.Fixed = no_jumps

@@ -1,5 +1,5 @@
--- No template or sign is missing in the definitions' list of all: each is found there by how it is written, so the check
--- refuses one that was forgotten.
+-- No template or sign is missing in the definitions' list of all: each is found there by how it is written, so the
+-- check refuses one that was forgotten.
 use Rattle.std.proofs.Common.{◌≡◌, refl, Some}
 use Rattle.std.specs.Prelude.{MatchOption}
 use Rattle.plcs_grammar.specs.declared.sign.Sign.{Sign}

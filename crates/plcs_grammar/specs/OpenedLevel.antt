@@ -1,5 +1,5 @@
--- Which token opens which level of nesting: a level is opened by its parenthesis or by its prefix operator. Levels count
--- from 1.
+-- Which token opens which level of nesting: a level is opened by its parenthesis or by its prefix operator. Levels
+-- count from 1.
 use Rattle.std.specs.Prelude.{ℕ, ◌+◌, List, [], ◌∷◌, ◌++◌}
 use Rattle.plcs_grammar.specs.PlainPhrase.{PlainExpr, PlainExprs, PlainVarRef, PlainPhrase}
 

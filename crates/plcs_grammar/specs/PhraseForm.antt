@@ -1,5 +1,5 @@
--- Which tokens are which phrase, category by category, and which tokens begin one. (Which bytes are a token: `Token`. Which
--- text is a phrase: `Reads`.)
+-- Which tokens are which phrase, category by category, and which tokens begin one. (Which bytes are a token: `Token`.
+-- Which text is a phrase: `Reads`.)
 use Rattle.std.specs.Prelude.{◌≡◌, ℕ, ◌≤◌, List, [], ◌∷◌, ◌++◌, Option, Some, None}
 use Rattle.plcs_base.specs.Text.{longest_text}
 use Rattle.plcs_grammar.specs.declared.category.Category.{Category}

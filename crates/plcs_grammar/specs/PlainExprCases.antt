@@ -73,10 +73,15 @@ expr_builtin e function arguments is =
 -- the plain form of a variable with this subscript, or without one
 reference_by_index : (v : VarRef) (index : Option (Box Expr Global)) → v.index ≡ index
     → plain_var_ref v
-    ≡ plain_var_ref_level (map-VarRef Expr VarRef PlainExpr PlainVarRef plain_expr plain_var_ref (record { name = v.name; index = index }))
+    ≡ plain_var_ref_level
+    (map-VarRef Expr VarRef PlainExpr PlainVarRef plain_expr plain_var_ref (record { name = v.name; index = index }))
 reference_by_index v index is =
     fold_out-VarRef PlainExpr PlainVarRef plain_expr_level plain_var_ref_level v
-    ∙ ap (λ (i : Option (Box Expr Global)). plain_var_ref_level (map-VarRef Expr VarRef PlainExpr PlainVarRef plain_expr plain_var_ref (record { name = v.name; index = i }))) is
+    ∙ ap
+    (λ (i : Option (Box Expr Global)).
+    plain_var_ref_level
+    (map-VarRef Expr VarRef PlainExpr PlainVarRef plain_expr plain_var_ref (record { name = v.name; index = i })))
+    is
 
 -- the plain form of a variable without a subscript
 pub reference_simple : (v : VarRef) → v.index ≡ None → plain_var_ref v ≡ PlainVarRef.simple v.name

@@ -1,5 +1,5 @@
--- Phrases as plain data, which is what a text reads as, and the plain form of each phrase of the code: the same data, with
--- a list for each Vec and the bytes of each name and text.
+-- Phrases as plain data, which is what a text reads as, and the plain form of each phrase of the code: the same data,
+-- with a list for each Vec and the bytes of each name and text.
 use Rattle.std.specs.Prelude.{ℕ, ℤ, Bool, List, [], ◌∷◌, map, Option, Some, None, Box}
 use Rattle.std.specs.declared.alloc.Global.{Global}
 use Rattle.plcs_grammar.specs.declared.operator.PrefixOp.{PrefixOp}

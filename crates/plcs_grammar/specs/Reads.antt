@@ -1,5 +1,5 @@
--- Which phrase a whole text reads as: it is cut into the tokens of a phrase, or is a comment's text, within the limits or
--- past them.
+-- Which phrase a whole text reads as: it is cut into the tokens of a phrase, or is a comment's text, within the limits
+-- or past them.
 use Rattle.std.specs.Prelude.{◌≡◌, ◌⊎◌, ℕ, List, Some, None}
 use Rattle.plcs_grammar.specs.declared.category.Category.{Category}
 use Rattle.plcs_grammar.specs.declared.category.Category.TheVariants.{CommentText}

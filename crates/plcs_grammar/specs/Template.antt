@@ -81,16 +81,24 @@ choice_row command line sections =
 -- the row of the table of templates for a statement with a list of statements and an end
 abbrev pub loop_row : List ℕ → List PlainSegment → PlainRow
 loop_row command line =
-    record { sort = Sort.Statement; command = Some command; line = line; sections = list_of Sort.Statement ∷ []; last = closing }
+    record {
+      sort = Sort.Statement;
+      command = Some command;
+      line = line;
+      sections = list_of Sort.Statement ∷ [];
+      last = closing;
+    }
 
 -- the rows of the table for the templates
 abbrev pub template_row : Template → PlainRow
 template_row Template.Fixed =
     declaration_row (codes "fixed")
-    (PlainSegment.words (codes "DECLARE ( ") ∷ PlainSegment.part Category.DeclaredList ∷ PlainSegment.words (codes " ) FIXED;") ∷ [])
+    (PlainSegment.words (codes "DECLARE ( ")
+    ∷ PlainSegment.part Category.DeclaredList ∷ PlainSegment.words (codes " ) FIXED;") ∷ [])
 template_row Template.Bit =
     declaration_row (codes "bit")
-    (PlainSegment.words (codes "DECLARE ( ") ∷ PlainSegment.part Category.DeclaredList ∷ PlainSegment.words (codes " ) BIT;") ∷ [])
+    (PlainSegment.words (codes "DECLARE ( ")
+    ∷ PlainSegment.part Category.DeclaredList ∷ PlainSegment.words (codes " ) BIT;") ∷ [])
 template_row Template.Char =
     declaration_row (codes "char")
     (PlainSegment.words (codes "DECLARE ( ") ∷ PlainSegment.part Category.DeclaredList
@@ -98,15 +106,18 @@ template_row Template.Char =
     ∷ PlainSegment.words (codes " ) VARYING;") ∷ [])
 template_row Template.If =
     choice_row (codes "if")
-    (PlainSegment.words (codes "IF ( ") ∷ PlainSegment.part Category.Condition ∷ PlainSegment.words (codes " ) THEN") ∷ [])
+    (PlainSegment.words (codes "IF ( ")
+    ∷ PlainSegment.part Category.Condition ∷ PlainSegment.words (codes " ) THEN") ∷ [])
     (body ∷ [])
 template_row Template.IfElse =
     choice_row (codes "ifelse")
-    (PlainSegment.words (codes "IF ( ") ∷ PlainSegment.part Category.Condition ∷ PlainSegment.words (codes " ) THEN") ∷ [])
+    (PlainSegment.words (codes "IF ( ")
+    ∷ PlainSegment.part Category.Condition ∷ PlainSegment.words (codes " ) THEN") ∷ [])
     (body ∷ body_after (codes "ELSE") ∷ [])
 template_row Template.While =
     loop_row (codes "while")
-    (PlainSegment.words (codes "DO WHILE ( ") ∷ PlainSegment.part Category.Condition ∷ PlainSegment.words (codes " );") ∷ [])
+    (PlainSegment.words (codes "DO WHILE ( ")
+    ∷ PlainSegment.part Category.Condition ∷ PlainSegment.words (codes " );") ∷ [])
 template_row Template.For =
     loop_row (codes "for")
     (PlainSegment.words (codes "DO ") ∷ PlainSegment.part Category.Variable
@@ -117,10 +128,12 @@ template_row Template.For =
 template_row Template.Group = loop_row (codes "group") (PlainSegment.words (codes "DO;") ∷ [])
 template_row Template.Get =
     simple_row (codes "get")
-    (PlainSegment.words (codes "GET LIST ( ") ∷ PlainSegment.part Category.VariableList ∷ PlainSegment.words (codes " );") ∷ [])
+    (PlainSegment.words (codes "GET LIST ( ")
+    ∷ PlainSegment.part Category.VariableList ∷ PlainSegment.words (codes " );") ∷ [])
 template_row Template.Put =
     simple_row (codes "put")
-    (PlainSegment.words (codes "PUT LIST ( ") ∷ PlainSegment.part Category.ExpressionList ∷ PlainSegment.words (codes " );") ∷ [])
+    (PlainSegment.words (codes "PUT LIST ( ")
+    ∷ PlainSegment.part Category.ExpressionList ∷ PlainSegment.words (codes " );") ∷ [])
 template_row Template.PutSkip =
     simple_row (codes "puts")
     (PlainSegment.words (codes "PUT SKIP LIST ( ") ∷ PlainSegment.part Category.ExpressionList

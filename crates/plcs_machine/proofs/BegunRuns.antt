@@ -1,4 +1,5 @@
--- What is left of the code of main once some of its cells are made: it begins the same run, with the fetches behind those so far.
+-- What is left of the code of main once some of its cells are made: it begins the same run, with the fetches behind
+-- those so far.
 use Rattle.std.proofs.Common.{ℕ, ◌+◌, ◌≤◌, ◌≡◌, refl, ap, sym, ◌∙◌, subst, arith}
 use Rattle.std.proofs.Math.Bool.{false≢true}
 use Rattle.std.specs.Prelude.{Bool, true, false, List, [], ◌∷◌, ◌++◌, drop, slice_get, Option, Some, None, IsSome, is_none, option_and_then, option_map, if◌then◌else◌, ◌&&◌, nat_le, length}

@@ -1,5 +1,6 @@
--- The variables of a called procedure's frame can be made one after the other: the parameters have different names, each is one of the
--- effective items, and the others are those that are no parameters, so that all together have no more cells than the items.
+-- The variables of a called procedure's frame can be made one after the other: the parameters have different names,
+-- each is one of the effective items, and the others are those that are no parameters, so that all together have no
+-- more cells than the items.
 use Rattle.std.specs.Prelude.{◌≡◌, refl, ℕ, zero, suc, ◌+◌, ◌≤◌, ◌==◌, Bool, true, false, cond, not, ◌&&◌, ◌||◌, bytes_eq, if◌then◌else◌, List, [], ◌∷◌, ◌++◌, length, map, Option, Some, None, is_some, option_and_then, option_map}
 use Rattle.std.specs.List.{filter, list_all, list_any}
 use Rattle.std.proofs.Common.{ap, sym, ◌∙◌, subst, arith, append_assoc}

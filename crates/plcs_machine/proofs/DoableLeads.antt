@@ -1,5 +1,5 @@
--- What an instruction leads to can be done: there is the cell that is set, the loop that is left, room for the loop that is entered
--- and for the frame that is made, and a caller of what is left.
+-- What an instruction leads to can be done: there is the cell that is set, the loop that is left, room for the loop
+-- that is entered and for the frame that is made, and a caller of what is left.
 use Rattle.std.specs.Prelude.{◌≡◌, refl, ℕ, ◌==◌, nat_le, ℤ, ◌+ℤ◌, Bool, true, false, if◌then◌else◌, List, [], ◌∷◌, ◌++◌, drop, length, reverse, slice_get, take, Option, Some, None, IsSome, option_and_then, option_map}
 use Rattle.std.specs.FinMap.{get}
 use Rattle.std.specs.Option.{option_or}

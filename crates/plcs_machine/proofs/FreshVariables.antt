@@ -1,5 +1,5 @@
--- Variables that are made in a new frame: their names are different, and they have not too many cells together, so each of them can be
--- added behind those before it. The effective items of a procedure are such.
+-- Variables that are made in a new frame: their names are different, and they have not too many cells together, so each
+-- of them can be added behind those before it. The effective items of a procedure are such.
 use Rattle.std.specs.Prelude.{◌≡◌, refl, ℕ, ◌+◌, ◌≤◌, Bool, true, false, cond, bytes_eq, if◌then◌else◌, nat_le, nat_lt, ◌&&◌, List, [], ◌∷◌, ◌++◌, length, map, Option, Some, None, is_none, is_some}
 use Rattle.std.proofs.Common.{ap, sym, ◌∙◌, subst, arith, append_assoc}
 use Rattle.std.proofs.Math.Bool.{false≢true}

@@ -9,7 +9,8 @@ pub mod FreshVariables
 pub mod TreeBegun
 -- the law `code_steps_as_tree`: code that stands somewhere
 pub mod StandingCode
--- what is run there: expressions, arguments, the way to the next place, what stands at a place, calls, and the ends of procedures
+-- what is run there: expressions, arguments, the way to the next place, what stands at a place, calls, and the ends of
+-- procedures
 pub mod RunExpressions
 pub mod RunArguments
 pub mod RunLandings

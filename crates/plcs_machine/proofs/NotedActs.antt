@@ -1,4 +1,5 @@
--- The record of an act, from the place of the newest frame and from what was in the cell; and what a stored value leaves as it was.
+-- The record of an act, from the place of the newest frame and from what was in the cell; and what a stored value
+-- leaves as it was.
 use Rattle.std.specs.Prelude.{◌≡◌, refl, ℕ, zero, suc, ◌-◌, ◌<◌, nat_lt, true, false, List, [], ◌∷◌, length, slice_get, slice_set, Option, Some, None, IsSome, is_some, option_and_then, option_map}
 use Rattle.std.specs.Option.{option_map_or}
 use Rattle.std.proofs.Common.{ap, sym, ◌∙◌, arith}

@@ -1,5 +1,5 @@
--- On which cell an instruction works: in what fits a tree, on the one for which the variable finally stands, since a reference is to a
--- cell of a lower frame that is none.
+-- On which cell an instruction works: in what fits a tree, on the one for which the variable finally stands, since a
+-- reference is to a cell of a lower frame that is none.
 use Rattle.std.specs.Prelude.{◌≡◌, refl, ℕ, ℤ, Bool, true, false, not, ◌&&◌, if◌then◌else◌, List, slice_get, Option, Some, None, option_and_then, option_map}
 use Rattle.std.specs.Option.{option_map_or}
 use Rattle.std.proofs.Common.{ap, sym, ◌∙◌}

@@ -1,6 +1,7 @@
--- A call by code: the procedure's cells are made from its arguments and from its items, which are those of the frame that the tree's step
--- makes, and the step ends where a run begins in the procedure. The code of the call and that of the cells have no instruction in common,
--- so both together are fetched within as many fetches as there are instructions.
+-- A call by code: the procedure's cells are made from its arguments and from its items, which are those of the frame
+-- that the tree's step makes, and the step ends where a run begins in the procedure. The code of the call and that of
+-- the cells have no instruction in common, so both together are fetched within as many fetches as there are
+-- instructions.
 use Rattle.std.specs.Prelude.{◌≡◌, refl, ℕ, zero, suc, ◌+◌, ◌-◌, ◌≤◌, ◌<◌, ◌==◌, nat_le, ℤ, Bool, true, false, not, bytes_eq, flat_map, if◌then◌else◌, List, [], ◌∷◌, ◌++◌, drop, length, map, slice_get, Option, Some, None, is_some, option_and_then, option_map}
 use Rattle.std.specs.FinMap.{get}
 use Rattle.std.specs.List.{list_all, list_any}

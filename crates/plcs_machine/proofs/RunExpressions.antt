@@ -1,5 +1,5 @@
--- The code of an expression pushes what the expression comes to, or stops the step as that does. There always is room for the operands:
--- a phrase has at most 400 bytes, and between two operands stand two bytes or more.
+-- The code of an expression pushes what the expression comes to, or stops the step as that does. There always is room
+-- for the operands: a phrase has at most 400 bytes, and between two operands stand two bytes or more.
 use Rattle.std.specs.Prelude.{◌≡◌, refl, ℕ, suc, ◌+◌, ◌≤◌, nat_le, ℤ, Bool, true, if◌then◌else◌, List, [], ◌∷◌, ◌++◌, codes, drop, length, reverse, slice_get, take, Option, Some, None}
 use Rattle.std.proofs.Common.{ap, sym, ◌∙◌, arith, append_assoc}
 use Rattle.std.proofs.Math.Seq.{drop-append_seam, take-append_seam}

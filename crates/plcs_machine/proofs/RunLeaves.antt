@@ -1,4 +1,5 @@
--- A procedure is left by code as it is in the tree's step: in main the run is over, and else the caller goes on where it waits.
+-- A procedure is left by code as it is in the tree's step: in main the run is over, and else the caller goes on where
+-- it waits.
 use Rattle.std.specs.Prelude.{◌≡◌, refl, ℕ, suc, ◌+◌, ◌≤◌, nat_le, Bool, true, false, if◌then◌else◌, List, [], length, slice_get, Option, Some, None, option_and_then, option_map}
 use Rattle.std.specs.FinMap.{get}
 use Rattle.std.proofs.Common.{ap, sym, ◌∙◌, arith}

@@ -1,5 +1,6 @@
--- What stands at a place is run by the code that stands behind its address: each part of the step is worked on in its order, and the
--- step ends where the spot says. Only what the tree's step is defined for is told here: in what isn't, kinds may be tested later.
+-- What stands at a place is run by the code that stands behind its address: each part of the step is worked on in its
+-- order, and the step ends where the spot says. Only what the tree's step is defined for is told here: in what isn't,
+-- kinds may be tested later.
 use Rattle.std.specs.Prelude.{◌≡◌, refl, ℕ, zero, suc, ◌+◌, ◌≤◌, ◌<◌, ℤ, pos, ◌+ℤ◌, Bool, true, false, if◌then◌else◌, List, [], ◌∷◌, ◌++◌, codes, length, reverse, slice_get, Option, Some, None}
 use Rattle.std.proofs.Common.{ap, sym, ◌∙◌, arith}
 use Rattle.std.proofs.lemmas.List.{length-append}

@@ -1,5 +1,5 @@
--- The procedure of a call: the one of the effective heading of its name, which stands among the procedures of the program, and whose code
--- is entered at the address that the code knows of the name.
+-- The procedure of a call: the one of the effective heading of its name, which stands among the procedures of the
+-- program, and whose code is entered at the address that the code knows of the name.
 use Rattle.std.specs.Prelude.{◌≡◌, refl, ℕ, ◌+◌, ◌≤◌, ◌==◌, ◌&&◌, Bool, true, false, bytes_eq, flat_map, if◌then◌else◌, List, [], ◌∷◌, ◌++◌, length, map, slice_get, take, Option, Some, None, is_some, option_and_then, option_map, unwrap_or}
 use Rattle.std.specs.FinMap.{get}
 use Rattle.std.specs.List.{list_all}

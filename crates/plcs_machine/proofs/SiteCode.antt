@@ -1,5 +1,5 @@
--- What is known of the code of a site of a program: where it stands, where a run goes on behind it and inside it, and which places have
--- their addresses there. All of it is what the laws of code tell.
+-- What is known of the code of a site of a program: where it stands, where a run goes on behind it and inside it, and
+-- which places have their addresses there. All of it is what the laws of code tell.
 use Rattle.std.specs.Prelude.{◌≡◌, refl, ℕ, ◌+◌, ◌≤◌, true, is_some, List, [], ◌∷◌, ◌++◌, length, map, sum, slice_get, Option, Some}
 use Rattle.std.specs.FinMap.{get}
 use Rattle.std.specs.List.{list_any}

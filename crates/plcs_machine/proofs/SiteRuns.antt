@@ -1,5 +1,5 @@
--- What stands at a place of a site is what the code there runs: by the kind of the node, each spot is the one whose code stands behind
--- the address of the place.
+-- What stands at a place of a site is what the code there runs: by the kind of the node, each spot is the one whose
+-- code stands behind the address of the place.
 use Rattle.std.specs.Prelude.{◌≡◌, refl, ℕ, zero, suc, ◌+◌, ◌≤◌, ◌<◌, nat_lt, ℤ, pos, neg_ℤ, Bool, true, false, ◌||◌, if◌then◌else◌, List, [], ◌∷◌, ◌++◌, drop, length, map, slice_get, take, Option, Some, None, option_and_then, option_map}
 use Rattle.std.specs.FinMap.{get}
 use Rattle.std.specs.List.{list_any}

@@ -1,4 +1,5 @@
--- What stops a run at a piece of code stops it in the tree's step, and for the same reason: a part that is needed is empty, or marked.
+-- What stops a run at a piece of code stops it in the tree's step, and for the same reason: a part that is needed is
+-- empty, or marked.
 use Rattle.std.specs.Prelude.{◌≡◌, refl, ℕ, ◌+◌, Bool, true, false, not, ◌||◌, if◌then◌else◌, [], ◌∷◌, Option, Some, None, is_none, is_some}
 use Rattle.std.specs.FinMap.{get}
 use Rattle.std.specs.List.{list_any}

@@ -1,4 +1,5 @@
--- How two texts are ordered from a byte on: by the bytes there, a blank behind the last one, and then by what is behind them.
+-- How two texts are ordered from a byte on: by the bytes there, a blank behind the last one, and then by what is behind
+-- them.
 use Rattle.std.proofs.Common.{ℕ, zero, suc, ◌+◌, ◌-◌, ◌≡◌, ◌<◌, ◌∙◌, ◌++◌, ◌∷◌, [], List, sym, ap, subst, length, drop, get_or, arith}
 use Rattle.std.proofs.Math.Seq.{drop-nil}
 use Rattle.std.specs.Prelude.{max, replicate}

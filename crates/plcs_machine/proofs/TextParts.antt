@@ -1,4 +1,5 @@
--- A part of a text: the numbers that say where it begins and how long it is are whole numbers, and it ends within the text.
+-- A part of a text: the numbers that say where it begins and how long it is are whole numbers, and it ends within the
+-- text.
 use Rattle.std.proofs.Common.{ℕ, ◌+◌, ◌-◌, ◌≡◌, ◌≤◌, ◌∙◌, List, sym, ap, length, take, drop, arith}
 use Rattle.std.specs.Prelude.{Bool, true, ℤ, pos, nat_le, ◌&&◌, if◌then◌else◌}
 use Rattle.plcs_base.specs.declared.value.Value.{Value}

@@ -1,5 +1,5 @@
--- The law `code_begins_as_tree`: the code of a tree begins with main's cells, which are those of main's effective items, and behind them
--- stands the step at which a run begins in main.
+-- The law `code_begins_as_tree`: the code of a tree begins with main's cells, which are those of main's effective
+-- items, and behind them stands the step at which a run begins in main.
 use Rattle.std.specs.Prelude.{◌≡◌, refl, ℕ, ◌+◌, ◌≤◌, ◌<◌, Bool, true, false, cond, ◌||◌, flat_map, if◌then◌else◌, List, [], ◌∷◌, ◌++◌, length, map, slice_get, slice_index_or, Option, Some, None, option_and_then, option_map, unwrap_or}
 use Rattle.std.specs.FinMap.{find, get, get-from_entries}
 use Rattle.std.specs.List.{list_any}

@@ -1,5 +1,5 @@
--- The law `code_steps_as_tree`: at the address of the newest frame's place stands the code of what stands there in the tree, and that comes
--- to the answer of the tree's step, which what fits has.
+-- The law `code_steps_as_tree`: at the address of the newest frame's place stands the code of what stands there in the
+-- tree, and that comes to the answer of the tree's step, which what fits has.
 use Rattle.std.specs.Prelude.{◌≡◌, refl, ℕ, zero, suc, ◌-◌, ◌+◌, ◌≤◌, ◌<◌, ◌==◌, nat_le, nat_lt, ℤ, Bool, true, false, ◌&&◌, if◌then◌else◌, List, [], ◌∷◌, drop, length, slice_get, Option, Some, None, IsSome, is_some, option_and_then, option_map}
 use Rattle.std.specs.FinMap.{get}
 use Rattle.std.specs.Option.{option_map_or, option_or}

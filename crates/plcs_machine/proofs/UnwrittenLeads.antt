@@ -1,5 +1,5 @@
--- What an instruction leads to that neither writes nor reads: neither the input nor the output plays a part in it. Where one is
--- defined, it is so whatever was written before.
+-- What an instruction leads to that neither writes nor reads: neither the input nor the output plays a part in it.
+-- Where one is defined, it is so whatever was written before.
 use Rattle.std.specs.Prelude.{◌≡◌, refl, ℕ, nat_le, Bool, true, false, if◌then◌else◌, List, [], length, take, reverse, Option, Some, None}
 use Rattle.std.specs.FinMap.{get}
 use Rattle.std.proofs.Math.Bool.{false≢true}

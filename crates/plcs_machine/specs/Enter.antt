@@ -8,7 +8,8 @@ use Rattle.plcs_store.specs.NewFrame.{new_frame}
 use Rattle.plcs_machine.specs.Fetched.{Fetched, at_once, behind_one, with_result}
 use Rattle.plcs_machine.specs.Passing.{Landing, Passing, landing, passing_of, with_unset}
 
--- where an instruction leads before main's first place, behind which it is told where the others lead: only cells come there
+-- where an instruction leads before main's first place, behind which it is told where the others lead: only cells come
+-- there
 abbrev pub begun_passing : Variables → (go : Variables → Option (Fetched Landing)) → Passing → Option (Fetched Landing)
 begun_passing variables go (Passing.lands place) = Some (at_once (landing place variables))
 begun_passing variables go (Passing.jumps d) = None
@@ -25,7 +26,7 @@ begun_in (instr ∷ instrs) variables = option_and_then (begun_passing variables
 abbrev pub new_run : Landing → PlainConfiguration
 new_run landing = record { frames = new_frame 0 landing.place landing.variables ∷ []; taken = 0; output = [] }
 
--- the configuration of a new run of the code, and how many instructions are fetched for it, up to main's first place. It isn't
--- defined where other than cells of different names come before that, or too many
+-- the configuration of a new run of the code, and how many instructions are fetched for it, up to main's first place.
+-- It isn't defined where other than cells of different names come before that, or too many
 abbrev pub Enter : PlainCode → Option (Fetched PlainConfiguration)
 Enter code = option_map (with_result new_run) (begun_in code.instrs [])

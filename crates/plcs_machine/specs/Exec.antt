@@ -49,23 +49,25 @@ outcome_answer c go settled (Outcome.gives leads) = lead_answer c go settled lea
 outcome_answer c go settled (Outcome.stops reason) = Some (at_once (PlainStepAnswer.stopped reason))
 outcome_answer c go settled Outcome.undefined = None
 
--- the answer of a step that has come to an address, within so many fetches, with these operands, the newest first, and these
--- arguments
+-- the answer of a step that has come to an address, within so many fetches, with these operands, the newest first, and
+-- these arguments
 abbrev pub run_from : PlainCode → (rest : List ℕ) → PlainConfiguration → (fetches address : ℕ) → List Value
     → List Argument → Option FetchedAnswer
 run_from code rest c zero address values arguments = None
 run_from code rest c (suc fetches) address values arguments =
     outcome_answer c (run_from code rest c fetches) (settle c.frames code.instrs fetches)
-    (then_gives (if_there (slice_get code.instrs address)) (lead code c.frames rest c.output (address + 1) values arguments))
+    (then_gives
+    (if_there (slice_get code.instrs address))
+    (lead code c.frames rest c.output (address + 1) values arguments))
 
 -- the answer of a step that begins behind an address
 abbrev pub run_behind : PlainCode → (input : List ℕ) → PlainConfiguration → (address : ℕ) → Option FetchedAnswer
 run_behind code input c address = run_from code (drop c.taken input) c (length code.instrs) (address + 1) [] []
 
--- the answer of a step of a configuration by the code, with this input, and how many instructions it fetches: it begins behind
--- the place of the newest frame, and ends with fetching the next place, what stops the run, the instruction with a fault, or
--- the end of main. It isn't defined where an instruction lacks what it needs, or where none of these ends comes within as many
--- fetches as the code has instructions
+-- the answer of a step of a configuration by the code, with this input, and how many instructions it fetches: it begins
+-- behind the place of the newest frame, and ends with fetching the next place, what stops the run, the instruction with
+-- a fault, or the end of main. It isn't defined where an instruction lacks what it needs, or where none of these ends
+-- comes within as many fetches as the code has instructions
 abbrev pub Exec : PlainCode → (input : List ℕ) → PlainConfiguration → Option FetchedAnswer
 Exec code input c =
     if nat_le 1 (length c.frames) && nat_le (length c.frames) most_frames

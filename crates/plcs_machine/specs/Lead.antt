@@ -202,8 +202,9 @@ leave_lead code frames =
 
 -- ---- the table
 
--- the table of instructions: what the one before the next address leads to in these frames, where this is left of the input and
--- this was written, with these operands, the newest first, and these arguments, in the order in which they were added
+-- the table of instructions: what the one before the next address leads to in these frames, where this is left of the
+-- input and this was written, with these operands, the newest first, and these arguments, in the order in which they
+-- were added
 abbrev pub lead : PlainCode → List Frame → (rest output : List ℕ) → (next : ℕ) → List Value → List Argument
     → PlainInstr → Outcome Lead
 lead code frames rest output next values arguments (PlainInstr.place place) = Outcome.gives (Lead.arrives place)
@@ -226,7 +227,9 @@ lead code frames rest output next values arguments (PlainInstr.store_at name) =
 lead code frames rest output next values arguments (PlainInstr.unary op) =
     on_newest (λ a others. then_gives (prefix_value op a) (push_lead next others arguments)) values
 lead code frames rest output next values arguments (PlainInstr.binary op) =
-    on_newest (λ b others. on_newest (λ a more. then_gives (infix_value op a b) (push_lead next more arguments)) others) values
+    on_newest
+    (λ b others. on_newest (λ a more. then_gives (infix_value op a b) (push_lead next more arguments)) others)
+    values
 lead code frames rest output next values arguments (PlainInstr.builtin function n) =
     builtin_lead next arguments function n values
 lead code frames rest output next values arguments (PlainInstr.jump d) = jumped next values arguments d

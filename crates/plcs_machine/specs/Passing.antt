@@ -103,8 +103,8 @@ abbrev pub variables_made : Option Making → Variables
 variables_made None = []
 variables_made (Some making) = making.variables
 
--- where an instruction leads before the next address, behind which it is told where others lead; cells are made in a new frame
--- alone
+-- where an instruction leads before the next address, behind which it is told where others lead; cells are made in a
+-- new frame alone
 abbrev pub passed : List Frame → (next : ℕ) → Option Making → (go : ℕ → Option Making → Option (Fetched Landing))
     → Passing → Option (Fetched Landing)
 passed frames next making go (Passing.lands place) = Some (at_once (landing place (variables_made making)))
@@ -119,8 +119,8 @@ passed frames next making go (Passing.makes name ty size) =
     (option_and_then (λ more. go next (Some more))
     (option_and_then (λ now. option_map (with_variables now) (with_unset name ty size now.variables)) making))
 
--- where a step ends that comes to an address, within so many fetches: only jumps come before the place, and, where a frame is
--- made, its cells
+-- where a step ends that comes to an address, within so many fetches: only jumps come before the place, and, where a
+-- frame is made, its cells
 abbrev pub settle : List Frame → List PlainInstr → (fetches address : ℕ) → Option Making → Option (Fetched Landing)
 settle frames instrs zero address making = None
 settle frames instrs (suc fetches) address making =

@@ -31,8 +31,8 @@ followed frames own (Cell.Ref location) = if may_follow frames location then Som
 abbrev pub followed_at : List Frame → (own : Location) → Option Location
 followed_at frames own = option_and_then (followed frames own) (cell_at frames own)
 
--- on which cell an instruction works that names a variable of the newest frame, with this subscript or none: there is such a
--- cell, and it is no reference
+-- on which cell an instruction works that names a variable of the newest frame, with this subscript or none: there is
+-- such a cell, and it is no reference
 abbrev pub reached : List Frame → (name : List ℕ) → (subscript : Option ℤ) → Outcome Location
 reached frames name subscript =
     then_gives (if_there (variable_at frames (newest frames) name)) (λ variable.

@@ -25,8 +25,8 @@ DoesAct before now notes =
 abbrev pub NothingChanges : (before now : PlainConfiguration) → (noted notes : Undo) → Type 0
 NothingChanges before now noted notes = (now ≡ before) × (notes ≡ noted)
 
--- a step that is made does one act, and leaves the record of it, which gives the whole configuration before the step back; any
--- other changes nothing
+-- a step that is made does one act, and leaves the record of it, which gives the whole configuration before the step
+-- back; any other changes nothing
 abbrev pub StepChanges : StepAnswer → (before now : PlainConfiguration) → (noted notes : Undo) → Type 0
 StepChanges StepAnswer.Stepped before now noted notes = (step_undone notes now ≡ before) × DoesAct before now notes
 StepChanges (StepAnswer.Stopped reason) before now noted notes = NothingChanges before now noted notes

@@ -1,5 +1,5 @@
--- Runs are alike in programs of the same substance that check alike and have the same places: slots stand in both at the same places,
--- procedures have the same items, and a step looks at no more.
+-- Runs are alike in programs of the same substance that check alike and have the same places: slots stand in both at
+-- the same places, procedures have the same items, and a step looks at no more.
 use Rattle.std.specs.Prelude.{◌≡◌, refl, ℕ, ◌==◌, Bool, false, true, if◌then◌else◌, List, [], ◌∷◌, ◌⊎◌, All, map, unwrap_or, Option}
 use Rattle.std.proofs.Common.{ap, sym, ◌∙◌, subst}
 use Rattle.plcs_grammar.specs.declared.node_kind.NodeKind.{NodeKind}

@@ -1,5 +1,5 @@
--- What stands at a place, what a call needs and where a run begins look at the substance of a program and at its marks alone; so runs
--- begin and step alike in programs of the same substance that check alike.
+-- What stands at a place, what a call needs and where a run begins look at the substance of a program and at its marks
+-- alone; so runs begin and step alike in programs of the same substance that check alike.
 use Rattle.std.specs.Prelude.{◌≡◌, refl, ℕ, zero, suc, Bool, if◌then◌else◌, List, [], ◌∷◌, map, Option, Some, None, is_some, option_and_then, option_map}
 use Rattle.std.specs.FinMap.{get}
 use Rattle.std.specs.List.{list_all}

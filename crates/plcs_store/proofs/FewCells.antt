@@ -1,6 +1,6 @@
 -- `callers_wait`: a frame has no more cells than its procedure's effective items.
--- The variables of a frame have different names, and each has the cells of an item of its name; so item after item is set
--- against a variable, and none twice.
+-- The variables of a frame have different names, and each has the cells of an item of its name; so item after item is
+-- set against a variable, and none twice.
 use Rattle.std.specs.Prelude.{◌≡◌, refl, ℕ, ◌+◌, ◌≤◌, Bool, true, false, cond, bytes_eq, if◌then◌else◌, List, [], ◌∷◌, length, sum_by, Option, Some, None, option_map, unwrap_or}
 use Rattle.std.specs.List.{AllByRecursion, IsDistinct}
 use Rattle.std.specs.Map.{keys_of}

@@ -1,6 +1,6 @@
 -- A run begins in main at a statement that isn't passed over, in no loop.
--- Behind its declarations a procedure has a statement; only groups and comments pass a run on, to a list of statements, and
--- these are no loops.
+-- Behind its declarations a procedure has a statement; only groups and comments pass a run on, to a list of statements,
+-- and these are no loops.
 use Rattle.std.specs.Prelude.{◌≡◌, refl, ℕ, ◌<◌, ◌≤◌, ◌||◌, Bool, true, false, if◌then◌else◌, List, [], ◌∷◌, ◌++◌, length, slice_index_or}
 use Rattle.std.proofs.Common.{ap, sym, ◌∙◌, arith, append-nil, inl, inr}
 use Rattle.std.proofs.Math.Bool.{false≢true}
@@ -72,8 +72,8 @@ pub statement_sort : (sort : Sort) → is_statement sort ≡ true → sort ≡ S
 statement_sort Sort.Statement e = refl
 statement_sort other e = absurd (false≢true e)
 
--- a place is the start of a statement among nodes that stand in a node, or inside one of them, in the same loops and the same
--- procedure
+-- a place is the start of a statement among nodes that stand in a node, or inside one of them, in the same loops and
+-- the same procedure
 pub record BeginsIn (outer : ℕ × NodeKind) (above : Around) (items : Forest) (place : PlainPlace) : Type 0 where
   pub start : place.point ≡ 0
   pub kind : NodeKind

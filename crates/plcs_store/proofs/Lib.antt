@@ -30,7 +30,8 @@ pub mod LoopRoom
 pub mod ItemLimits
 -- `callers_wait`: the cells of a frame
 pub mod FewCells
--- `runs_ignore_room_and_elision`: the substance of programs, what is kept of it, what stands at its places, and what fits it
+-- `runs_ignore_room_and_elision`: the substance of programs, what is kept of it, what stands at its places, and what
+-- fits it
 pub mod Substances
 pub mod KeptPrograms
 pub mod AlikeSpots

@@ -1,6 +1,6 @@
 -- `callers_wait`: a frame keeps fewer loops than a program is deep.
--- Each loop that a frame keeps is a node round the frame's place, or the one there. The outermost of these nodes is main or a
--- procedure, which is no loop, so the loops are fewer than the nodes, and a path of nodes has at most 64.
+-- Each loop that a frame keeps is a node round the frame's place, or the one there. The outermost of these nodes is
+-- main or a procedure, which is no loop, so the loops are fewer than the nodes, and a path of nodes has at most 64.
 use Rattle.std.specs.Prelude.{◌≡◌, refl, ℕ, suc, ◌+◌, ◌<◌, ◌≤◌, ◌==◌, Bool, true, false, if◌then◌else◌, ◌||◌, List, [], ◌∷◌, ◌++◌, length, map, slice_index_or}
 use Rattle.std.proofs.Common.{ap, sym, ◌∙◌, arith, inl, inr}
 use Rattle.std.proofs.Math.Bool.{false≢true}

@@ -1,4 +1,5 @@
--- The substance of a program: what is read of its procedures and sites is read of that, since neither has room or elision in it.
+-- The substance of a program: what is read of its procedures and sites is read of that, since neither has room or
+-- elision in it.
 use Rattle.std.specs.Prelude.{◌≡◌, refl, ℕ, ◌==◌, Bool, true, false, if◌then◌else◌, List, [], ◌++◌, Option, Some, option_map}
 use Rattle.std.proofs.Common.{ap, sym, ◌∙◌}
 use Rattle.plcs_base.specs.declared.declared.Declared.{Declared}

@@ -1,5 +1,5 @@
--- `steps_taken_back`: what an act changes in the frames is changed back. The newest frame and a cell are changed independently
--- of each other, in whichever frame the cell is.
+-- `steps_taken_back`: what an act changes in the frames is changed back. The newest frame and a cell are changed
+-- independently of each other, in whichever frame the cell is.
 use Rattle.std.specs.Prelude.{◌≡◌, refl, ℕ, zero, suc, ◌+◌, ◌-◌, Bool, true, false, cond, bytes_eq, List, [], ◌∷◌, ◌++◌, length, take, slice_get, slice_set, Option, Some, None, IsSome, option_and_then}
 use Rattle.std.specs.List.{insert, remove}
 use Rattle.std.specs.Map.{lookup, set_value}

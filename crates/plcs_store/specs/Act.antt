@@ -100,7 +100,8 @@ output_after Act.leave output = output
 -- the configuration after an act that goes on at the place
 abbrev pub done : Act → (next : PlainPlace) → PlainConfiguration → PlainConfiguration
 done act next c =
-    record { frames = frames_after act next c.frames; taken = taken_after act c.taken; output = output_after act c.output }
+    record
+    { frames = frames_after act next c.frames; taken = taken_after act c.taken; output = output_after act c.output }
 
 -- the newest frame has room for one more loop, if there is a frame
 abbrev pub HasLoopRoom : List Frame → Type 0

@@ -56,8 +56,8 @@ stands_for own (Cell.Ref location) = location
 abbrev pub final_location : List Frame → Location → Option Location
 final_location frames own = option_map (stands_for own) (cell_at frames own)
 
--- which cell of a variable is meant, counted from 0: without a subscript the first, and else by the subscript, from 1 to the
--- size
+-- which cell of a variable is meant, counted from 0: without a subscript the first, and else by the subscript, from 1
+-- to the size
 abbrev pub element_of : Variable → Option ℤ → Outcome ℕ
 element_of variable None = Outcome.gives 0
 element_of variable (Some z) =
@@ -100,7 +100,8 @@ kept_value (ItemType.Text n) (Value.Text x) = Some (Value.Text (take n x))
 -- the value as the cell at a location keeps it
 abbrev pub kept_at : List Frame → Location → Value → Outcome Value
 kept_at frames location value =
-    if_there (option_and_then (λ variable. kept_value variable.ty value) (variable_at frames location.frame location.name))
+    if_there
+    (option_and_then (λ variable. kept_value variable.ty value) (variable_at frames location.frame location.name))
 
 -- a list, as of cells, variables or frames, with one of its items changed, if there is the item
 abbrev pub changed_at : {A : Type 0} → ℕ → (A → A) → List A → List A

@@ -53,7 +53,8 @@ is_waiting_place NodeKind.Main point = false
 is_waiting_place NodeKind.Assign point = false
 is_waiting_place (NodeKind.Filled template) point = waits_in_template template point
 
--- a frame stands at a place of its procedure, and waits for another there or doesn't; the nodes around its place are told
+-- a frame stands at a place of its procedure, and waits for another there or doesn't; the nodes around its place are
+-- told
 pub record StandsAround (program : Forest) (waits : Bool) (frame : Frame) (kind : NodeKind)
     (around : Around) : Type 0 where
   pub stands : StandsInside program frame.place.slot.0 kind around
@@ -151,8 +152,8 @@ pub record IsTarget (frames : List Frame) (kind : Kind) (location : Location) : 
   pub cell_there : slice_get variable.cells location.element ≡ Some cell
   pub plain : IsNoReference cell
 
--- what a cell of the kind holds in the frame of this number: a value of the kind, or a reference to a cell of the kind in a
--- lower frame
+-- what a cell of the kind holds in the frame of this number: a value of the kind, or a reference to a cell of the kind
+-- in a lower frame
 abbrev pub HoldsRight : List Frame → (frame : ℕ) → Kind → Cell → Type 0
 HoldsRight frames frame kind Cell.Unset = Unit {0}
 HoldsRight frames frame kind (Cell.Held value) = kind_of_value value ≡ kind

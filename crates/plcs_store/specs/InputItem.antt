@@ -123,14 +123,17 @@ item_value (ItemType.Text n) item = text_item item
 -- what the item of so many bytes at the front is read as, with how many bytes it takes
 abbrev pub cut_item : ItemType → List ℕ → ℕ → Result (Value × ℕ) ItemFault
 cut_item ty input n =
-    ok_or (option_map (λ value. (value, n + separator_length (drop n input))) (item_value ty (take n input))) ItemFault.Conversion
+    ok_or
+    (option_map (λ value. (value, n + separator_length (drop n input))) (item_value ty (take n input)))
+    ItemFault.Conversion
 
 -- what the item at the front is read as, if its length is known
 abbrev pub cut_or_wanted : ItemType → List ℕ → Option ℕ → Result (Value × ℕ) ItemFault
 cut_or_wanted ty input None = Err ItemFault.Wanted
 cut_or_wanted ty input (Some n) = cut_item ty input n
 
--- what the item at the front is read as, where no blank stands before it: nothing is there, it isn't whole yet, or it is there
+-- what the item at the front is read as, where no blank stands before it: nothing is there, it isn't whole yet, or it
+-- is there
 abbrev pub item_at_front : ItemType → List ℕ → Result (Value × ℕ) ItemFault
 item_at_front ty [] = Err ItemFault.Wanted
 item_at_front ty (byte ∷ rest) = cut_or_wanted ty (byte ∷ rest) (item_length (byte ∷ rest))

@@ -3,8 +3,8 @@ use Rattle.std.specs.Prelude.{Option, Some, None, Result, Ok, Err}
 use Rattle.plcs_store.specs.declared.fault_kind.FaultKind.{FaultKind}
 use Rattle.plcs_store.specs.declared.reason.Reason.{Reason}
 
--- what a part of a step comes to: it gives something, or stops the step for a reason. It is undefined where there is no cell
--- of a name, or where a value is of another kind than is wanted, which isn't so in what fits a tree
+-- what a part of a step comes to: it gives something, or stops the step for a reason. It is undefined where there is no
+-- cell of a name, or where a value is of another kind than is wanted, which isn't so in what fits a tree
 pub data Outcome (A : Type 0) : Type 0 where
   gives : A → Outcome A
   stops : Reason → Outcome A

@@ -36,12 +36,13 @@ pub record IsKeptOf (program : Forest) (c : PlainConfiguration) (kept : Kept) : 
   pub declared : map (λ frame. Items program frame.procedure.0) c.frames ≡ kept.declared
   pub held : map (λ frame. template_held program frame.place.slot.0) c.frames ≡ map Some kept.held
 
--- what is kept for a slot in which nothing stands, so that what is kept is told of any run; where one fits the program no
--- frame has such a slot
+-- what is kept for a slot in which nothing stands, so that what is kept is told of any run; where one fits the program
+-- no frame has such a slot
 abbrev pub nothing_held : HeldTemplate
 nothing_held = record { kind = NodeKind.StatementHole; parts = [] }
 
--- what is kept of the program for a suspended run, told of it: where the run fits the program, this is kept and nothing else
+-- what is kept of the program for a suspended run, told of it: where the run fits the program, this is kept and nothing
+-- else
 unfoldable pub kept_of : (program : Forest) → PlainConfiguration → Kept
 kept_of program c = record {
   headings = map (λ frame. unwrap_or (heading_parts program frame.procedure.0) []) c.frames;
@@ -92,7 +93,8 @@ AsksFrames program (frame ∷ frames) (heading ∷ headings) (items ∷ declared
 AsksFrames program (frame ∷ frames) (heading ∷ headings) (items ∷ declared) (template ∷ held) answer =
     AsksFrame program frame heading items template (AsksFrames program frames headings declared held) answer
 
--- whether a run may be resumed in the program, by what is kept for its frames: none is a yes, and else it is the refusal
+-- whether a run may be resumed in the program, by what is kept for its frames: none is a yes, and else it is the
+-- refusal
 abbrev pub MayResume : Kept → PlainConfiguration → (program : Forest) → Option ResumeRefusal → Type 0
 MayResume kept c program answer = AsksFrames program c.frames kept.headings kept.declared kept.held answer
 
@@ -113,6 +115,7 @@ resolved_place program place = if place.point == 0 then unwrap_or (Start program
 abbrev pub resolved_frame : (program : Forest) → Frame → Frame
 resolved_frame program frame = frame_at (resolved_place program (frame_place frame)) frame
 
--- the configuration in which a resumed run goes on: where its newest frame stands at a place with point 0, that is resolved
+-- the configuration in which a resumed run goes on: where its newest frame stands at a place with point 0, that is
+-- resolved
 abbrev pub resolved : (program : Forest) → PlainConfiguration → PlainConfiguration
 resolved program c = record c { frames = with_newest (resolved_frame program) c.frames }

@@ -1,4 +1,5 @@
--- Programs in which runs are alike: what fits one fits the other, and steps there the same. Room and elision make no difference.
+-- Programs in which runs are alike: what fits one fits the other, and steps there the same. Room and elision make no
+-- difference.
 use Rattle.std.specs.Prelude.{◌≡◌, ◌↔◌, ℕ, List}
 use Rattle.template_tree.specs.Checks.Environment.{Items}
 use Rattle.template_tree.specs.Edits.Edit.{edit_at}
@@ -12,15 +13,15 @@ use Rattle.plcs_store.specs.NewFrame.{First}
 use Rattle.plcs_store.specs.Resume.{IsKeptOf, heading_parts, kept_of, resolved, template_held}
 use Rattle.plcs_store.specs.Step.{Step}
 
--- of two programs the same is kept for runs: the phrases of each heading, the effective items of each procedure, and the
--- kind and the parts of what stands in each slot
+-- of two programs the same is kept for runs: the phrases of each heading, the effective items of each procedure, and
+-- the kind and the parts of what stands in each slot
 pub record KeepsAlike (one other : Forest) : Type 0 where
   pub headings : (slot : ℕ) → heading_parts one slot ≡ heading_parts other slot
   pub declared : (slot : ℕ) → Items one slot ≡ Items other slot
   pub held : (slot : ℕ) → template_held one slot ≡ template_held other slot
 
--- runs of two programs are alike: the same fits both, a new run begins in both and each step is made in both as in the other, the
--- same is kept for a run, and it goes on in both at the same place
+-- runs of two programs are alike: the same fits both, a new run begins in both and each step is made in both as in the
+-- other, the same is kept for a run, and it goes on in both at the same place
 pub record RunsAlike (one other : Forest) : Type 0 where
   pub fits : (c : PlainConfiguration) → Fits one c ↔ Fits other c
   pub begins : First one ≡ First other

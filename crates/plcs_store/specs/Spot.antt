@@ -164,7 +164,8 @@ behind_item found item =
 -- what a GET does at the item of this number
 abbrev pub get_spot : Site → (item : ℕ) → Option Spot
 get_spot found item =
-    option_and_then (λ targets. option_map (λ target. Spot.reads target (behind_item found item)) (slice_get targets item))
+    option_and_then
+    (λ targets. option_map (λ target. Spot.reads target (behind_item found item)) (slice_get targets item))
     (said variables_in found.label.parts 0)
 
 -- the nodes behind the first of some inside a node, where the place stands that follows a test which fails

@@ -128,7 +128,8 @@ write_act frames output skip expressions =
 -- the frame that one step of a run makes where it calls a procedure
 abbrev pub called_frame : List Frame → Callee → List Argument → Option Frame
 called_frame frames callee arguments =
-    option_map (λ parameters. new_frame callee.slot callee.start (parameters ++ other_variables callee.parameters callee.items))
+    option_map
+    (λ parameters. new_frame callee.slot callee.start (parameters ++ other_variables callee.parameters callee.items))
     (parameter_variables frames callee.items callee.parameters arguments)
 
 -- what one step of a run gives that calls a procedure, unless too many frames stand

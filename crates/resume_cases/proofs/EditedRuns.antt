@@ -1,5 +1,5 @@
--- `keep`, `make_under`, `elide`, `resume_run`: a run goes on to stand while its tree is edited, and fits it again once it is
--- resumed.
+-- `keep`, `make_under`, `elide`, `resume_run`: a run goes on to stand while its tree is edited, and fits it again once
+-- it is resumed.
 use Rattle.std.specs.Prelude.{◌≡◌, refl, List, [], Option, Some, None, IfSome}
 use Rattle.std.proofs.Common.{ap, sym, ◌∙◌, subst}
 use Rattle.std.proofs.lemmas.List.Elements.{All-nil}

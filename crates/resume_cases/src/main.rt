@@ -1,5 +1,6 @@
 //! A script of cases on runs that stand still: stepped and stepped back, their programs edited under them, and resumed
-//! where that may be. Each line of the script is printed as it is, and after a case its answer, in lines that begin with
+//! where that may be. Each line of the script is printed as it is, and after a case its answer, in lines that begin
+//! with
 //! `= `.
 #![tactic(auto)]
 

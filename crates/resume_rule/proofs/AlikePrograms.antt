@@ -1,4 +1,5 @@
--- `answers_ignore_room_and_elision`: programs that keep the same for each procedure and slot have the same for each frame.
+-- `answers_ignore_room_and_elision`: programs that keep the same for each procedure and slot have the same for each
+-- frame.
 use Rattle.std.specs.Prelude.{◌↔◌, map, Option}
 use Rattle.std.proofs.Common.{sym}
 use Rattle.template_tree.specs.Edits.Edit.{edit_at}

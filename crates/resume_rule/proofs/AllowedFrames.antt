@@ -12,8 +12,8 @@ use Rattle.plcs_store.specs.declared.refusal.ResumeRefusal.{ResumeRefusal}
 use Rattle.plcs_store.specs.Resume.{Asks, AsksFrame, AsksFrames, HeadingDiffers, ItemsDiffer, Parts, TemplateDiffers, template_held}
 use Rattle.resume_rule.proofs.SettledEquations.{head_or, items_settled, tail}
 
--- the rule refuses nothing of a frame that stood in the earlier program: its items are as they were, its slot is live, and at
--- a point other than the start the template there can't differ
+-- the rule refuses nothing of a frame that stood in the earlier program: its items are as they were, its slot is live,
+-- and at a point other than the start the template there can't differ
 pub record IsAllowed (earlier later : Forest) (frame : Frame) : Type 0 where
   pub items : Items later frame.procedure.0 ≡ Items earlier frame.procedure.0
   pub live : (found : Site) × (site later frame.place.slot.0 ≡ Some found)

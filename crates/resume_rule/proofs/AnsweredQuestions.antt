@@ -13,8 +13,8 @@ use Rattle.resume_rule.specs.ResumeAnswer.{IsFrameAnswer, IsFramesAnswer}
 abbrev pub NoMore : Option ResumeRefusal → Type 0
 NoMore answer = answer ≡ None
 
--- what a question and those behind it answer: where that is a refusal, it is the answer whatever is asked behind them, and where
--- it is none, the answer is that of what is asked behind them
+-- what a question and those behind it answer: where that is a refusal, it is the answer whatever is asked behind them,
+-- and where it is none, the answer is that of what is asked behind them
 abbrev pub LeadsOn : ((Option ResumeRefusal → Type 0) → Option ResumeRefusal → Type 0) → Option ResumeRefusal → Type 1
 LeadsOn asks None = (more : Option ResumeRefusal → Type 0) (other : Option ResumeRefusal) → asks more other ↔ more other
 LeadsOn asks (Some refusal) = (more : Option ResumeRefusal → Type 0) (other : Option ResumeRefusal) → asks more other ↔ (other ≡ Some refusal)

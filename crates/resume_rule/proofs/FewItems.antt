@@ -1,5 +1,5 @@
--- The items of a procedure: those that a map has, and that there are no more of them than a frame may have cells, since each has a
--- cell.
+-- The items of a procedure: those that a map has, and that there are no more of them than a frame may have cells, since
+-- each has a cell.
 use Rattle.std.specs.Prelude.{◌≡◌, refl, ℕ, zero, suc, ◌≤◌, ◌==◌, Bool, true, false, if◌then◌else◌, List, [], ◌∷◌, length, Option, Some, None, option_and_then, option_map, slice_get, unwrap_or}
 use Rattle.std.proofs.Common.{◌+◌, ◌∙◌, arith, sym}
 use Rattle.std.proofs.Math.Bool.{false≢true}

@@ -1,4 +1,5 @@
--- The node at a path, found by its slot: it is the one of the site of the slot, and main or a procedure where the path has one number.
+-- The node at a path, found by its slot: it is the one of the site of the slot, and main or a procedure where the path
+-- has one number.
 use Rattle.std.specs.Prelude.{◌≡◌, refl, ℕ, zero, suc, ◌+◌, ◌≤◌, ◌==◌, Bool, true, false, if◌then◌else◌, List, [], ◌∷◌, length, Option, Some, None, option_map}
 use Rattle.std.specs.Option.{option_or}
 use Rattle.std.proofs.Common.{ap, sym, ◌∙◌, arith}

@@ -1,5 +1,6 @@
 -- `resumed_runs_fit`: the frames of a run that is resumed.
--- Of each frame is told, going up the list, that it fits the later tree; the newest is the last of them, and it alone is resolved.
+-- Of each frame is told, going up the list, that it fits the later tree; the newest is the last of them, and it alone
+-- is resolved.
 use Rattle.std.specs.Prelude.{◌≡◌, refl, ℕ, zero, suc, ◌≤◌, true, false, List, [], ◌∷◌, All, length, slice_get, Some, option_map}
 use Rattle.std.proofs.Common.{ap, sym, ◌∙◌, subst, arith}
 use Rattle.std.proofs.lemmas.Option.{none-some}

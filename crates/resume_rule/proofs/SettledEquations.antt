@@ -1,6 +1,6 @@
 -- `resumed_runs_fit`: what can't differ is the same.
--- The rule refuses where something differs, so a yes says of what is kept only that it can't differ. Of numbers, truth values and lists
--- of them a test tells that they are the same then, and of declared items, which are made of numbers.
+-- The rule refuses where something differs, so a yes says of what is kept only that it can't differ. Of numbers, truth
+-- values and lists of them a test tells that they are the same then, and of declared items, which are made of numbers.
 use Rattle.std.specs.Prelude.{◌≡◌, refl, ℕ, zero, suc, ◌==◌, Bool, true, false, IsTrue, List, [], ◌∷◌}
 use Rattle.std.specs.Bool.{Decides}
 use Rattle.std.proofs.Common.{ap, sym, ◌∙◌, subst}

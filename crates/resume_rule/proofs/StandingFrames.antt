@@ -1,6 +1,6 @@
 -- `resumed_runs_fit`: where a frame stood in the earlier tree, it stands in the later one.
--- Its slot is live in both, so that the same nodes are around it. What else a place asks for is told by the template in its slot, which
--- can't differ, but at a start; there each of it is as in any template.
+-- Its slot is live in both, so that the same nodes are around it. What else a place asks for is told by the template in
+-- its slot, which can't differ, but at a start; there each of it is as in any template.
 use Rattle.std.specs.Prelude.{◌≡◌, refl, ℕ, ◌==◌, nat_lt, not, ◌&&◌, ◌||◌, Bool, true, false, if◌then◌else◌, IsTrue, List, [], ◌∷◌, ◌++◌, map, Option, Some, is_some, option_map, unwrap_or}
 use Rattle.std.proofs.Common.{ap, sym, ◌∙◌, subst, arith, inl, inr}
 use Rattle.std.proofs.Math.Bool.{false≢true}

@@ -1,5 +1,5 @@
--- The laws of resumption: what fitted a tree and may be resumed in an edited one fits that, what is kept has an entry for
--- each frame, and what the answer depends on.
+-- The laws of resumption: what fitted a tree and may be resumed in an edited one fits that, what is kept has an entry
+-- for each frame, and what the answer depends on.
 use Rattle.std.specs.Prelude.{◌≡◌, ◌↔◌, ℕ, List, map, Option, None}
 use Rattle.template_tree.specs.Checks.Environment.{Items}
 use Rattle.template_tree.specs.Edits.Edit.{edit_at}
@@ -17,9 +17,9 @@ use Rattle.resume_rule.specs.ResumeAnswer.{HasEntries}
 
 -- ---- what is resumed fits
 
--- a configuration fitted the earlier tree, of which something is kept for it; the later tree agrees with that one by its slots.
--- Where it may be resumed in the later tree it fits that, once its newest place is resolved. Edits give this agreement and keep
--- it, and so does going back to a kept tree
+-- a configuration fitted the earlier tree, of which something is kept for it; the later tree agrees with that one by
+-- its slots. Where it may be resumed in the later tree it fits that, once its newest place is resolved. Edits give this
+-- agreement and keep it, and so does going back to a kept tree
 abbrev pub ResumedRunsFit : Type 0
 ResumedRunsFit =
     (earlier later : PlainTree) (c : PlainConfiguration) (kept : Kept) → IsTree earlier → IsTree later
@@ -69,8 +69,8 @@ AnswersFollowFrames =
     → HasSameForFrames one other c
     → MayResume kept c one answer → MayResume kept c other answer
 
--- a change that was changed back doesn't count: a run may be resumed in a program that has for each frame what the earlier one
--- had when something was kept of it
+-- a change that was changed back doesn't count: a run may be resumed in a program that has for each frame what the
+-- earlier one had when something was kept of it
 abbrev pub ChangedBackResumes : Type 0
 ChangedBackResumes =
     (earlier later : Forest) (c : PlainConfiguration) (kept : Kept) → IsKeptOf earlier c kept

@@ -18,7 +18,8 @@ pub mod Owing
 pub mod WritesInTurn
 -- `rows` and `cols` of Terminal::take: no byte changes a terminal's size
 pub mod TerminalSizes
--- `painted_terminal_shows`: bytes one after the other, the sequence that moves the cursor, cells in their image, and rows
+-- `painted_terminal_shows`: bytes one after the other, the sequence that moves the cursor, cells in their image, and
+-- rows
 pub mod TakenBytes
 pub mod TakenNumbers
 pub mod TakenCells

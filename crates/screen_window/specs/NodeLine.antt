@@ -67,5 +67,6 @@ found_line (Some line) other = Some line
 abbrev pub place_line : (slot point : ℕ) → Forest → Option NodeLine
 place_line slot point Forest.nil = None
 place_line slot point (Forest.cons label inner rest) =
-    found_line (if label.slot == slot then Some (point_line label point) else line_inside label (place_line slot point inner))
+    found_line
+    (if label.slot == slot then Some (point_line label point) else line_inside label (place_line slot point inner))
     (place_line slot point rest)

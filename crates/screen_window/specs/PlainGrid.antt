@@ -3,8 +3,8 @@ use Rattle.std.specs.Prelude.{◌≡◌, ℕ, ◌-◌, ◌≤◌, IsTrue, List, 
 use Rattle.screen_window.specs.ScreenCell.{blank, is_screen_cell}
 use Rattle.screen_window.specs.Limit.{IsSize}
 
--- a grid: how many rows and columns it has, its rows of cells from the top, and the cursor's row and column, which count
--- from 1
+-- a grid: how many rows and columns it has, its rows of cells from the top, and the cursor's row and column, which
+-- count from 1
 pub record PlainGrid : Type 0 where
   pub rows : ℕ
   pub cols : ℕ

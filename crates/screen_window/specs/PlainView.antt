@@ -5,9 +5,9 @@ use Rattle.plcs_base.specs.Mark.{MarkMap}
 use Rattle.template_tree.specs.Programs.PlainTree.{Forest}
 use Rattle.template_tree.specs.Positions.Stop.{PlainStop}
 
--- a view: the program without the room of its lists, the marks of its phrases, the stop of the cursor, the number of the window's first line, the
--- place of a run that stands and isn't ended, the output of the run, the message, the prompt, the typed line, and the rows
--- of code where they are shown in place of the program
+-- a view: the program without the room of its lists, the marks of its phrases, the stop of the cursor, the number of
+-- the window's first line, the place of a run that stands and isn't ended, the output of the run, the message, the
+-- prompt, the typed line, and the rows of code where they are shown in place of the program
 pub record PlainView : Type 0 where
   pub items : Forest
   pub marks : MarkMap

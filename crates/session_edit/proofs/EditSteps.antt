@@ -1,5 +1,6 @@
--- What comes of an edit at a stop is a step: an edit at a node of the tree, of which its condition there gives the sort.
--- The edit and the node are those of the tree without room; with room the same edit at the node there makes the same tree.
+-- What comes of an edit at a stop is a step: an edit at a node of the tree, of which its condition there gives the
+-- sort. The edit and the node are those of the tree without room; with room the same edit at the node there makes the
+-- same tree.
 use Rattle.std.specs.Prelude.{◌≡◌, refl, ℕ, zero, Bool, true, false, ◌&&◌, if◌then◌else◌, is_none, List, Option, Some, None, option_map, Ok, Err}
 use Rattle.std.proofs.Common.{ap, sym, ◌∙◌, subst}
 use Rattle.std.proofs.Math.Bool.{false≢true}

@@ -15,8 +15,8 @@ use Rattle.cursor_moves.specs.Move.{stop_right}
 abbrev pub stop_or_next : PlainStop → PlainStop → PlainStop
 stop_or_next stop next = if starts_with nat_eq next.path stop.path then next else stop
 
--- where the cursor goes from a stop that was filled: to the next one, where that lies in the same node or in a node inside
--- it; without such a next stop it stays
+-- where the cursor goes from a stop that was filled: to the next one, where that lies in the same node or in a node
+-- inside it; without such a next stop it stays
 abbrev pub onward : Forest → PlainStop → PlainStop
 onward items stop = option_map_or (stop_or_next stop) (stop_right items stop) stop
 
@@ -24,7 +24,8 @@ onward items stop = option_map_or (stop_or_next stop) (stop_right items stop) st
 abbrev pub has_sort : Sort → Forest → List ℕ → Bool
 has_sort sort items path = option_map_or (λ node. same_sort (sort_of node.label.kind) sort) (node_at items path) false
 
--- where the cursor goes from an item of the sort that was dropped, over the nodes that are left: to the item of its list
--- that is now at its number, or else to the last one, which stood before it; the lists in a node are of different sorts
+-- where the cursor goes from an item of the sort that was dropped, over the nodes that are left: to the item of its
+-- list that is now at its number, or else to the last one, which stood before it; the lists in a node are of different
+-- sorts
 abbrev pub path_after_drop : Sort → Forest → List ℕ → List ℕ
 path_after_drop sort items path = if has_sort sort items path then path else with_last pred path

@@ -21,8 +21,8 @@ use Rattle.session_edit.specs.PlainEdit.{PlainEdit}
 use Rattle.session_edit.specs.Here.{category_in, is_wanted, can_take, takes_nodes, takes_phrase, is_spare_hole, enclosing_item}
 use Rattle.session_edit.specs.Cursor.{onward, path_after_drop}
 
--- what comes of an edit: the tree after it, the stop of the cursor in that, the node that was moved out, if one was, and
--- what was done in which slot; or why the edit is refused
+-- what comes of an edit: the tree after it, the stop of the cursor in that, the node that was moved out, if one was,
+-- and what was done in which slot; or why the edit is refused
 pub data Edited : Type 0 where
   became : (tree : PlainTree) (stop : PlainStop) (taken : Option PlainNode) (what : What) (slot : ℕ) → Edited
   refused : TreeFault → Edited

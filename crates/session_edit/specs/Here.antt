@@ -38,8 +38,8 @@ abbrev pub is_wanted : PlainPhrase → Option Category → Bool
 is_wanted phrase None = false
 is_wanted phrase (Some category) = same_category (category_of phrase) category
 
--- whether something can be taken out at a part of a node, or at the node itself: a phrase, or the node where it is neither
--- main nor a hole
+-- whether something can be taken out at a part of a node, or at the node itself: a phrase, or the node where it is
+-- neither main nor a hole
 abbrev pub can_take : Option ℕ → PlainNode → Bool
 can_take None node = is_some (hole_left node.label.kind)
 can_take (Some part) node = is_some (part_at node.label.parts part)
@@ -68,7 +68,8 @@ is_list_item items path =
 abbrev pub is_spare_hole : Forest → PlainStop → PlainNode → Bool
 is_spare_hole items stop node =
     (is_none stop.part && is_hole node.label.kind)
-    && (is_list_item items stop.path && nat_lt 1 (how_many (sort_of node.label.kind) (sorts (siblings_at items stop.path))))
+    && (is_list_item items stop.path
+    && nat_lt 1 (how_many (sort_of node.label.kind) (sorts (siblings_at items stop.path))))
 
 -- beside what a hole can come at a stop: the nearest item of a list, whose path is the longest of the first so many
 -- numbers of a path that leads to one

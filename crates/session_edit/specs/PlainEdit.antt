@@ -8,8 +8,8 @@ use Rattle.template_tree.specs.Programs.Part.{IsPhrasePlace}
 use Rattle.clip_store.specs.PlainFragment.{PlainFragment, IsFragment, plain_fragment, roomless_fragment}
 use Rattle.session_edit.specs.declared.edit.Edit.{Edit}
 
--- an edit: a template fills a hole, phrase text is entered, a fragment is inserted, what stands at the cursor is deleted
--- or taken out, or a hole comes beside the nearest list item
+-- an edit: a template fills a hole, phrase text is entered, a fragment is inserted, what stands at the cursor is
+-- deleted or taken out, or a hole comes beside the nearest list item
 pub data PlainEdit : Type 0 where
   fill : Template → PlainEdit
   enter : PlainPhrase → PlainEdit

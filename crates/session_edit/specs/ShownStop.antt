@@ -4,7 +4,8 @@ use Rattle.std.specs.Option.{option_or}
 use Rattle.template_tree.specs.Programs.PlainTree.{Forest, PlainTree}
 use Rattle.template_tree.specs.Positions.Stop.{PlainStop, node_stop}
 
--- the path to the slot, or to the outermost elided comment in which it stands, among nodes of which the first has this number
+-- the path to the slot, or to the outermost elided comment in which it stands, among nodes of which the first has this
+-- number
 abbrev pub shown_path : ℕ → ℕ → Forest → Option (List ℕ)
 shown_path slot k Forest.nil = None
 shown_path slot k (Forest.cons label inner rest) =

@@ -1,5 +1,5 @@
--- `fitting_runs_are_kept`: for each frame of a run that fits a program its procedure stands there, and so does its place; so what is
--- kept for it is there.
+-- `fitting_runs_are_kept`: for each frame of a run that fits a program its procedure stands there, and so does its
+-- place; so what is kept for it is there.
 use Rattle.std.specs.Prelude.{◌≡◌, refl, ℕ, zero, suc, Bool, IsSome, IsTrue, List, [], ◌∷◌, map, slice_get, Option, Some, None, option_map, unwrap_or}
 use Rattle.std.proofs.Math.Bool.{false≢true}
 use Rattle.template_tree.specs.Checks.Environment.{procedure_at}

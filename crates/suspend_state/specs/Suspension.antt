@@ -21,8 +21,8 @@ with_reason reason run = record run { reason = reason }
 abbrev pub FitsUnlessKept : (program : Forest) → Run → Type 0
 FitsUnlessKept program run = run.kept ≡ None → Fits program (plain_configuration run.state)
 
--- what is kept once the program is about to be edited, by what was kept before: where that was nothing, what is kept of the
--- program for the frames of the run, and else the same; nothing else is changed
+-- what is kept once the program is about to be edited, by what was kept before: where that was nothing, what is kept of
+-- the program for the frames of the run, and else the same; nothing else is changed
 abbrev pub KeepsBeside : (before : Option Kept) → (program : Forest) → (old new : Run) → Type 0
 KeepsBeside None program old new =
     (kept : Kept) × (new ≡ record old { kept = Some kept }) × IsKeptOf program (plain_configuration old.state) kept

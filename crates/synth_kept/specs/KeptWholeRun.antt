@@ -90,8 +90,8 @@ pub record RefusesWords (run : Status) (taken last : List ℕ) (same_outside : T
 abbrev pub kept_making : KeptTold → ToldMaking
 kept_making told = record { taken = told.taken; wants = told.wants; counts = told.counts }
 
--- a program was made over an open journal, as without one: no key was taken, the files are as they were, and the journal
--- is left standing
+-- a program was made over an open journal, as without one: no key was taken, the files are as they were, and the
+-- journal is left standing
 pub record MakesOverJournal (number : ℕ) (run : Status) (closing : Closing) (before now : KeptTold)
     (taken last : List ℕ) (after_reads : Type 0) : Type 0 where
   pub made : MadeAs run number (kept_making before) (kept_making now)

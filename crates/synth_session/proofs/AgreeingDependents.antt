@@ -1,5 +1,5 @@
--- What depends on a program is that of every program that differs from it in the room of lists alone, or in which comments
--- are elided.
+-- What depends on a program is that of every program that differs from it in the room of lists alone, or in which
+-- comments are elided.
 use Rattle.std.proofs.Common.{◌≡◌, ◌↔◌, List, ap, sym, subst, ◌∙◌, option_map}
 use Rattle.std.specs.Prelude.{Contains}
 use Rattle.plcs_base.specs.declared.place.PhraseAt.{PhraseAt}

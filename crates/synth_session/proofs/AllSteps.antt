@@ -1,4 +1,5 @@
--- The steps of a tick that shows none, one after the other: each that is made goes on to the others, and each that isn't ends them.
+-- The steps of a tick that shows none, one after the other: each that is made goes on to the others, and each that
+-- isn't ends them.
 use Rattle.std.proofs.Common.{arith, ◌≡◌, ℕ, zero, suc, ◌+◌, ◌-◌, ◌<◌, ◌≤◌, Bool, true, false, if◌then◌else◌, List, Some, None, refl, sym, ap, ap₂, ◌∙◌, subst}
 use Rattle.std.specs.Prelude.{IsSome}
 use Rattle.std.proofs.Math.Bool.{false≢true}

@@ -1,5 +1,5 @@
--- What is counted at most where the program comes to be another, and in keys: nothing counted is within every bound, and what an edit
--- counts is what its key does.
+-- What is counted at most where the program comes to be another, and in keys: nothing counted is within every bound,
+-- and what an edit counts is what its key does.
 use Rattle.std.proofs.Common.{◌≡◌, ◌≤◌, ℕ, Bool, true, false, if◌then◌else◌, List, refl, ap, arith, ◌∙◌}
 use Rattle.plcs_base.specs.Count.{raised_by}
 use Rattle.plcs_base.specs.PlainCounts.{ChecksAtMost, PlainCounts}

@@ -1,4 +1,5 @@
--- edit and cut_out: what comes of a key whose edit is made or refused, and what is counted in it, by what came of the edit.
+-- edit and cut_out: what comes of a key whose edit is made or refused, and what is counted in it, by what came of the
+-- edit.
 use Rattle.std.proofs.Common.{◌≡◌, ◌+◌, ◌<◌, ◌≤◌, ℕ, List, Option, Some, None, option_map, true, refl, sym, ap, subst, ◌∙◌}
 use Rattle.std.specs.Prelude.{Ok}
 use Rattle.plcs_base.specs.PlainCounts.{PlainCounts}

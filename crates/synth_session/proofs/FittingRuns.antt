@@ -1,4 +1,5 @@
--- The run that a session holds may go on, where a key begins it, takes steps of it back, or lets go of its earlier configurations.
+-- The run that a session holds may go on, where a key begins it, takes steps of it back, or lets go of its earlier
+-- configurations.
 use Rattle.std.proofs.Common.{◌≡◌, ℕ, ◌-◌, false, List, [], ◌∷◌, length, min, Option, Some, None, refl, sym, ap, subst, ◌∙◌}
 use Rattle.std.specs.Prelude.{IfSome, IsSome, is_some, option_map, unwrap_or}
 use Rattle.std.proofs.lemmas.List.Elements.{All-drop, All-head, All-nil, All-tail}

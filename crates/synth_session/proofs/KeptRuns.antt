@@ -1,6 +1,6 @@
--- keep_for_run, edit, cut_out and toggle_comment: before an edit what the program holds is kept for the run that stands, which changes
--- nothing that is seen of it; afterwards it came to stand in a program of which this one came by edits. Where a comment is turned
--- it fits as before.
+-- keep_for_run, edit, cut_out and toggle_comment: before an edit what the program holds is kept for the run that
+-- stands, which changes nothing that is seen of it; afterwards it came to stand in a program of which this one came by
+-- edits. Where a comment is turned it fits as before.
 use Rattle.std.proofs.Common.{◌≡◌, ℕ, Bool, true, List, Option, Some, None, is_some, option_map, slice_index_or, refl, sym, ap, subst, ◌∙◌}
 use Rattle.std.specs.Prelude.{IfSome, IsSome, OnErr, OnOk, Result, Ok, Err, unwrap_or}
 use Rattle.template_tree.specs.Edits.Elision.{with_toggled_at}

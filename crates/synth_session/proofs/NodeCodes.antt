@@ -1,5 +1,5 @@
--- `span` and `count` of code_span: the code of the node at a stop is what the code of the program has in the span of its slot, which is as
--- long as it says.
+-- `span` and `count` of code_span: the code of the node at a stop is what the code of the program has in the span of
+-- its slot, which is as long as it says.
 use Rattle.std.proofs.Common.{◌≡◌, ℕ, Bool, true, false, List, [], drop, length, take, Option, Some, None, option_map, refl, sym, ap, ◌∙◌}
 use Rattle.std.specs.FinMap.{get}
 use Rattle.std.specs.Option.{option_map_or}

@@ -1,4 +1,5 @@
--- At most one thing can be replied to whether a run may go on: of two answers to the same questions either is the first that holds.
+-- At most one thing can be replied to whether a run may go on: of two answers to the same questions either is the first
+-- that holds.
 use Rattle.std.proofs.Common.{◌≡◌, ◌⊎◌, inl, inr, ap, sym, refl, ◌∙◌, List, [], ◌∷◌, Option, Some, None}
 use Rattle.plcs_base.specs.declared.declared.Declared.{Declared}
 use Rattle.plcs_store.specs.declared.frame.Frame.{Frame}

@@ -1,5 +1,5 @@
--- `code` of Dependents::of and toggle_elision: the code that is made of a tree, by whatever tells its marks and its effective items, is
--- the code of the program, of which room and elision are no part.
+-- `code` of Dependents::of and toggle_elision: the code that is made of a tree, by whatever tells its marks and its
+-- effective items, is the code of the program, of which room and elision are no part.
 use Rattle.std.proofs.Common.{◌≡◌, ℕ, List, ap, sym, ◌∙◌}
 use Rattle.plcs_base.specs.Mark.{MarkMap}
 use Rattle.plcs_base.specs.Scope.{ItemMap}

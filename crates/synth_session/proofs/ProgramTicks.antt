@@ -1,5 +1,5 @@
--- Ticks by the code of the program as ticks by the program alone: each step of a run that fits is made in both ways alike, and the run
--- fits after it.
+-- Ticks by the code of the program as ticks by the program alone: each step of a run that fits is made in both ways
+-- alike, and the run fits after it.
 use Rattle.std.proofs.Common.{◌≡◌, ℕ, zero, suc, Bool, true, false, if◌then◌else◌, List, Option, Some, None, option_map, option_and_then, refl, sym, ap, ap₂, subst, ◌∙◌}
 use Rattle.std.specs.Prelude.{IfSome, IsSome}
 use Rattle.template_tree.specs.Programs.PlainTree.{Forest, PlainTree, roomless_tree}

@@ -1,5 +1,5 @@
--- A refused key changes the message alone, and counts nothing: each outcome of a key is either a refusal, which is so by its
--- definition, or its answer is none.
+-- A refused key changes the message alone, and counts nothing: each outcome of a key is either a refusal, which is so
+-- by its definition, or its answer is none.
 use Rattle.std.proofs.Common.{◌≡◌, ℕ, ◌+◌, ◌-◌, Bool, true, false, if◌then◌else◌, List, [], ◌∷◌, ◌++◌, length, take, Option, Some, None, Ok, Err, refl}
 use Rattle.std.specs.Prelude.{◌==◌, nat_lt}
 use Rattle.plcs_grammar.specs.Canon.{Canon}

@@ -1,5 +1,6 @@
--- The run that a session holds, where it is to go on: whether it may is what was kept for it tells, and where it may it fits the
--- program at the place to which it is resolved. Where earlier configurations are held nothing was edited, so that it stays there.
+-- The run that a session holds, where it is to go on: whether it may is what was kept for it tells, and where it may it
+-- fits the program at the place to which it is resolved. Where earlier configurations are held nothing was edited, so
+-- that it stays there.
 use Rattle.std.proofs.Common.{◌≡◌, ◌≢◌, ◌⊎◌, inl, inr, ℕ, Bool, true, false, if◌then◌else◌, List, [], ◌∷◌, Option, Some, None, Ok, refl, sym, ap, subst, ◌∙◌}
 use Rattle.std.specs.Prelude.{IfSome, IsSome, is_some, option_map, unwrap_or}
 use Rattle.std.specs.List.{All}

@@ -1,5 +1,6 @@
--- Each key in turn: what holds of the keys in which a run goes on, and of those in which none does, holds of every key. So after a key
--- in which the run goes on a run stands, no more steps were made than are asked for, and nothing is fetched in any other key.
+-- Each key in turn: what holds of the keys in which a run goes on, and of those in which none does, holds of every key.
+-- So after a key in which the run goes on a run stands, no more steps were made than are asked for, and nothing is
+-- fetched in any other key.
 use Rattle.std.proofs.Common.{arith, ◌≡◌, ℕ, ◌+◌, ◌-◌, Bool, true, false, if◌then◌else◌, List, [], ◌∷◌, ◌++◌, length, take, Option, Some, None, Ok, Err, refl}
 use Rattle.std.specs.Prelude.{◌==◌, nat_lt}
 use Rattle.plcs_grammar.specs.Canon.{Canon}
@@ -204,8 +205,8 @@ text_still s (Some category) reply = read_still s reply
 
 -- ---- each key
 
--- what holds of each key in which no run goes on, of each that begins a run, and of each by which the run that stands is to go on,
--- holds of every key, with what it asks
+-- what holds of each key in which no run goes on, of each that begins a run, and of each by which the run that stands
+-- is to go on, holds of every key, with what it asks
 module _ (s : PlainSession) (reply : Reply) (P : Request → KeyOutcome → Type 0)
     (still : (asked : Request) (outcome : KeyOutcome) → IsStill outcome → P asked outcome)
     (begins : (steps : ℕ) → P Request.Nothing (begun_outcome s steps))

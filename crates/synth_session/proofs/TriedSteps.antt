@@ -1,4 +1,5 @@
--- A step of the run that a session holds, as one of the plain session: what comes of trying it, and of a run that rests.
+-- A step of the run that a session holds, as one of the plain session: what comes of trying it, and of a run that
+-- rests.
 use Rattle.std.proofs.Common.{◌≡◌, ℕ, ◌+◌, ◌∷◌, take, true, List, Option, Some, None, option_map, unwrap_or, is_some, IfSome, IsSome, refl, sym, ap, ap₂, subst, subst₂, ◌∙◌}
 use Rattle.std.proofs.Math.Bool.{false≢true}
 use Rattle.template_tree.specs.Programs.PlainTree.{Forest, PlainTree, roomless_tree}

@@ -1,5 +1,5 @@
--- Keys that ask nothing of the files: what can be replied to them, and that nothing is counted in those that only do what no program
--- and no run is made for.
+-- Keys that ask nothing of the files: what can be replied to them, and that nothing is counted in those that only do
+-- what no program and no run is made for.
 use Rattle.std.proofs.Common.{Bor, ◌≡◌, ◌⊎◌, inl, inr, ℕ, Bool, true, false, ◌==◌, if◌then◌else◌, List, [], ◌∷◌, Option, Some, None, Result, Ok, Err, refl, sym, subst}
 use Rattle.std.specs.Prelude.{is_some, length, nat_lt}
 use Rattle.plcs_base.specs.PlainCounts.{PlainCounts}

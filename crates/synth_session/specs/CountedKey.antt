@@ -3,8 +3,8 @@ use Rattle.std.specs.Prelude.{◌≡◌, ℕ, ◌+◌, ◌≤◌}
 use Rattle.plcs_base.specs.Count.{raised_by}
 use Rattle.plcs_base.specs.PlainCounts.{PlainCounts}
 
--- in a key no more phrases are checked and no more instructions emitted than this, of the instructions fetched the least and the
--- most number are told, and nothing else is counted; a count at its last value stays there
+-- in a key no more phrases are checked and no more instructions emitted than this, of the instructions fetched the
+-- least and the most number are told, and nothing else is counted; a count at its last value stays there
 pub record CountsPressed (checks emits least most : ℕ) (before now : PlainCounts) : Type 0 where
   pub checked : now.checked ≤ before.checked + checks
   pub checked_later : before.checked ≤ now.checked
@@ -14,8 +14,8 @@ pub record CountsPressed (checks emits least most : ℕ) (before now : PlainCoun
   pub fetched_most : now.fetched ≤ raised_by most before.fetched
   pub laid : now.laid ≡ before.laid
 
--- in a key in which memory runs out no more phrases are checked, instructions emitted and instructions fetched than this, and nothing
--- else is counted
+-- in a key in which memory runs out no more phrases are checked, instructions emitted and instructions fetched than
+-- this, and nothing else is counted
 pub record CountsPressedAtMost (checks emits fetches : ℕ) (before now : PlainCounts) : Type 0 where
   pub checked : now.checked ≤ before.checked + checks
   pub checked_later : before.checked ≤ now.checked
@@ -25,7 +25,8 @@ pub record CountsPressedAtMost (checks emits fetches : ℕ) (before now : PlainC
   pub fetched_later : before.fetched ≤ now.fetched
   pub laid : now.laid ≡ before.laid
 
--- to draw a screen no more lines are laid out than so many, just so many instructions are fetched, and nothing else is counted
+-- to draw a screen no more lines are laid out than so many, just so many instructions are fetched, and nothing else is
+-- counted
 pub record CountsScreen (rows fetches : ℕ) (before now : PlainCounts) : Type 0 where
   pub laid : now.laid ≤ before.laid + rows
   pub laid_later : before.laid ≤ now.laid
@@ -33,8 +34,8 @@ pub record CountsScreen (rows fetches : ℕ) (before now : PlainCounts) : Type 0
   pub checked : now.checked ≡ before.checked
   pub emitted : now.emitted ≡ before.emitted
 
--- when a program comes to be another no more phrases are checked and no more instructions emitted than this, and nothing else is
--- counted
+-- when a program comes to be another no more phrases are checked and no more instructions emitted than this, and
+-- nothing else is counted
 pub record CountsProgram (checks emits : ℕ) (before now : PlainCounts) : Type 0 where
   pub checked : now.checked ≤ before.checked + checks
   pub checked_later : before.checked ≤ now.checked

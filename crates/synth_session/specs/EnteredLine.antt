@@ -32,8 +32,8 @@ use Rattle.synth_session.specs.RunCommands.{back_outcome, input_outcome, resume_
 abbrev pub quit_outcome : PlainSession → KeyOutcome
 quit_outcome s = record { after = s; answer = Answer.Quit; checks = 0; emits = 0; fetches = 0 }
 
--- what each command does; what one of files does depends on what they reply, and what one does by which a run that stands
--- is to go on depends on whether it may
+-- what each command does; what one of files does depends on what they reply, and what one does by which a run that
+-- stands is to go on depends on whether it may
 abbrev pub command_outcome : PlainSession → PlainCommand → Reply → KeyOutcome
 command_outcome s (PlainCommand.template template) reply = edited_by s (PlainEdit.fill template)
 command_outcome s PlainCommand.float reply = refusal_outcome s why.FloatNotThere
@@ -99,4 +99,5 @@ line_entered s reply =
     if length s.typed == 0
     then cursor_moved s stop_right
     else
-    (if begins_with_point s.typed then command_line_outcome s reply else text_entered s (category_at s.tree s.stop) reply)
+    (if begins_with_point s.typed then command_line_outcome s reply
+    else text_entered s (category_at s.tree s.stop) reply)

@@ -28,8 +28,8 @@ pub data Request : Type 0 where
   Save : (name bytes : List ℕ) → Request
   Load : (name : List ℕ) → Request
 
--- what is replied to a key: nothing was asked, the text is this, the run may go on or may not for this, and by the files
--- that the bytes were saved, that this program was loaded, or that what was asked was refused for this
+-- what is replied to a key: nothing was asked, the text is this, the run may go on or may not for this, and by the
+-- files that the bytes were saved, that this program was loaded, or that what was asked was refused for this
 pub data Reply : Type 0 where
   NotAsked : Reply
   Read : Standing → Reply
@@ -50,8 +50,8 @@ TextsHaveOneReply =
     → (reply : Reply) × IsTextReply category text reply
     × ((other : Reply) → IsTextReply category text other → other ≡ reply)
 
--- whether a run may go on in a program, by what is kept for it, can be replied to so: it is the first refusal that holds,
--- or none
+-- whether a run may go on in a program, by what is kept for it, can be replied to so: it is the first refusal that
+-- holds, or none
 abbrev pub IsResumeReply : Kept → PlainConfiguration → PlainTree → Reply → Type 0
 IsResumeReply kept c tree (Reply.Resumes refusal) = MayResume kept c tree.items refusal
 IsResumeReply kept c tree reply = ⊥

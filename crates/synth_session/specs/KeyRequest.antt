@@ -18,8 +18,8 @@ run_request tree None = Request.Nothing
 run_request tree (Some run) =
     if is_ended run.reason then Request.Nothing else Request.Resume run.kept run.configuration tree
 
--- what a command asks: `.step` and `.resume` ask whether the run that stands may go on, `.save` asks the files to save the
--- listing of the program, and `.load` to load one
+-- what a command asks: `.step` and `.resume` ask whether the run that stands may go on, `.save` asks the files to save
+-- the listing of the program, and `.load` to load one
 abbrev pub command_request : PlainSession → PlainCommand → Request
 command_request s (PlainCommand.template template) = Request.Nothing
 command_request s PlainCommand.float = Request.Nothing

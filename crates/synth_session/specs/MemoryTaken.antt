@@ -7,8 +7,8 @@ use Rattle.synth_session.specs.declared.key.Key.{Key}
 use Rattle.synth_session.specs.declared.key.Key.TheVariants.{Enter}
 use Rattle.synth_session.specs.PlainSession.{PlainSession}
 
--- whether a command takes memory in a session: those that edit the program, those of clips, those that begin a run, more
--- input, and those of files do; saving takes none of its own, but the files may want some
+-- whether a command takes memory in a session: those that edit the program, those of clips, those that begin a run,
+-- more input, and those of files do; saving takes none of its own, but the files may want some
 abbrev pub command_takes_memory : PlainSession → PlainCommand → Bool
 command_takes_memory s (PlainCommand.template template) = true
 command_takes_memory s PlainCommand.float = false

@@ -10,7 +10,8 @@ pub record PlainHeldRun : Type 0 where
   pub run : Option Run
   pub undos : List Undo
 
--- what a session always knows of the run that it holds: it can go back by each record, and nothing is worked on between steps
+-- what a session always knows of the run that it holds: it can go back by each record, and nothing is worked on between
+-- steps
 abbrev pub IsSteady : Option Run → List Undo → Type 0
 IsSteady None undos = undos ≡ []
 IsSteady (Some run) undos =

@@ -53,7 +53,8 @@ RunningKeysHaveRuns =
     (s : PlainSession) (key : Key) (reply : Reply) → (press s key reply).answer ≡ Answer.Running
     → IsRunning (press s key reply).after
 
--- the law of keys in which a run goes on, of a session: whatever can be replied to the key, the run fits the program then
+-- the law of keys in which a run goes on, of a session: whatever can be replied to the key, the run fits the program
+-- then
 abbrev pub RunningKeysFit : PlainSession → Type 0
 RunningKeysFit s =
     (key : Key) (reply : Reply) (stored : Option FileMap) → CanReply stored (request s key) reply

@@ -46,7 +46,7 @@ code_lines number (instr ∷ instrs) = (decimal number ++ (32 ∷ instr_text ins
 abbrev pub code_text : PlainTree → List ℕ
 code_text tree = flat_map (λ line. line ++ 10 ∷ []) (code_lines 0 (code_of tree).instrs)
 
--- so many rows of the code of the node at a stop, from the instruction of this number on, each as far as the widest screen may
--- show it
+-- so many rows of the code of the node at a stop, from the instruction of this number on, each as far as the widest
+-- screen may show it
 abbrev pub code_rows : (rows : ℕ) → PlainTree → PlainStop → (from : ℕ) → List (List ℕ)
 code_rows rows tree stop from = take rows (map (take MOST_COLS) (drop from (code_lines 0 (code_at tree stop))))

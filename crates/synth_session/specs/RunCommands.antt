@@ -53,7 +53,10 @@ run_outcome s = begun_outcome s (most_steps s.trace)
 -- a run that goes on in a program: where its place is the start of a slot, from where a run begins that comes there
 abbrev pub resumed_run : PlainTree → PlainRun → PlainRun
 resumed_run tree run =
-    record run { configuration = resolved tree.items run.configuration; kept = kept_of tree.items (resolved tree.items run.configuration) }
+    record run {
+      configuration = resolved tree.items run.configuration;
+      kept = kept_of tree.items (resolved tree.items run.configuration);
+    }
 
 -- what comes of a run that is to go on for so many steps, by why it may not, if it may not
 abbrev pub resumption_outcome : PlainSession → (steps : ℕ) → PlainRun → Option ResumeRefusal → KeyOutcome

@@ -35,8 +35,8 @@ use Rattle.synth_session.specs.ProgramCode.{code_of}
 use Rattle.synth_session.specs.RefusalText.{shown_message}
 use Rattle.synth_session.specs.Tick.{Steps, code_steps}
 
--- the plain form of a run in the code, with the records of its latest steps; until something is kept, what is kept for it is
--- what the program holds
+-- the plain form of a run in the code, with the records of its latest steps; until something is kept, what is kept for
+-- it is what the program holds
 abbrev pub plain_run : (program : Forest) → List Undo → Run → PlainRun
 plain_run program undos run = record {
   configuration = plain_configuration run.state;
@@ -126,9 +126,9 @@ pub record CameToStand (tree : PlainTree) (run : PlainRun) : Type 0 where
   pub fits : Fits before.items run.configuration
   pub kept : IsKeptOf before.items run.configuration run.kept
 
--- a run that stands may be asked whether it goes on in the program, and may go back: where nothing is kept yet it fits the
--- program, and else it came to stand in one of which this came by edits. Each earlier configuration that is held fits the program,
--- and where one is held, so does the run's own
+-- a run that stands may be asked whether it goes on in the program, and may go back: where nothing is kept yet it fits
+-- the program, and else it came to stand in one of which this came by edits. Each earlier configuration that is held
+-- fits the program, and where one is held, so does the run's own
 pub record MayGoOn (tree : PlainTree) (is_kept : Bool) (run : PlainRun) : Type 0 where
   pub unkept : is_kept ≡ false → Fits tree.items run.configuration
   pub stood : is_kept ≡ true → CameToStand tree run
@@ -142,7 +142,8 @@ HasFittingRun s =
     MayGoOn (roomless_tree s.program.tree) (is_some run.kept)
     (plain_run (roomless_tree s.program.tree).items s.run.undos run))
 
--- the conditions of a session for a key: its parts keep those between them, its code is that of its program, and its run may go on
+-- the conditions of a session for a key: its parts keep those between them, its code is that of its program, and its
+-- run may go on
 pub record IsReadyForKey {W : Type 0} (s : Session W) : Type 0 where
   pub session : IsSession s
   pub code : HasProgramCode s
@@ -169,8 +170,8 @@ pub record Does {W : Type 0} (may_take_memory : Bool) (outcome : KeyOutcome) (be
 abbrev pub CountsWanted : KeyOutcome → (before now : PlainCounts) → Type 0
 CountsWanted outcome before now = CountsPressedAtMost outcome.checks outcome.emits outcome.fetches before now
 
--- what a key with this outcome counts: no more phrases are checked and no more instructions emitted than it says, just so many
--- instructions are fetched, or at most so many where memory ran out, and no line is laid out
+-- what a key with this outcome counts: no more phrases are checked and no more instructions emitted than it says, just
+-- so many instructions are fetched, or at most so many where memory ran out, and no line is laid out
 abbrev pub CountsOutcome : KeyOutcome → (before now : PlainCounts) → Result Answer OutOfMemory → Type 0
 CountsOutcome outcome before now (Ok answer) =
     CountsPressed outcome.checks outcome.emits outcome.fetches outcome.fetches before now

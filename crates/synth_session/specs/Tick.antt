@@ -61,7 +61,8 @@ with_step s run next = record s {
 -- a session whose run stands still for a reason, which is told
 abbrev pub with_rest : PlainSession → PlainRun → RunReason → PlainSession
 with_rest s run reason =
-    record s { run = Some (record run { reason = reason }); message = message_text (Message.Notice (reason_notice reason)) }
+    record s
+    { run = Some (record run { reason = reason }); message = message_text (Message.Notice (reason_notice reason)) }
 
 -- what comes of trying a step: the session then, whether the step was made, and how many instructions were fetched
 pub record Tried : Type 0 where
@@ -130,7 +131,8 @@ abbrev pub tick_after : Tried → (PlainSession → TickOutcome) → TickOutcome
 tick_after step go =
     if step.made then with_more step.fetches (go step.after) else ticked Tick.Over step.after step.fetches
 
--- the steps of a tick that shows none of them, at most so many: it goes on until the run stops or is over, or all are made
+-- the steps of a tick that shows none of them, at most so many: it goes on until the run stops or is over, or all are
+-- made
 unfoldable pub all_steps : Steps → (left : ℕ) → PlainSession → TickOutcome
 all_steps steps zero s = ticked Tick.Over (with_pause s) 0
 all_steps steps (suc left) s = tick_after (tried steps s) (all_steps steps left)
@@ -174,8 +176,8 @@ pub record CallsNext (steps : Steps) (s : PlainSession) : Type 0 where
   pub answered : option_map (λ answer. answer.result) (steps run.configuration) ≡ Some (PlainStepAnswer.stepped next)
   pub calls : length next.frames ≡ length run.configuration.frames + 1
 
--- memory ran out in a tick that left the session so: so many of its steps were made before the one that wanted some, which calls a
--- procedure; a tick that shows its step makes none before that
+-- memory ran out in a tick that left the session so: so many of its steps were made before the one that wanted some,
+-- which calls a procedure; a tick that shows its step makes none before that
 pub record WantsInTick (steps : Steps) (before now : PlainSession) : Type 0 where
   pub number : ℕ
   pub within : number < steps_left before
@@ -189,8 +191,8 @@ abbrev pub DoesTick : Steps → (before now : PlainSession) → Result Tick OutO
 DoesTick steps before now (Ok told) = (now ≡ (tick steps before).after) × (told ≡ (tick steps before).tick)
 DoesTick steps before now (Err error) = WantsInTick steps before now
 
--- what is counted in a tick: just so many instructions are fetched, or at most so many where memory ran out, and nothing else is
--- counted
+-- what is counted in a tick: just so many instructions are fetched, or at most so many where memory ran out, and
+-- nothing else is counted
 abbrev pub CountsTick : (fetches : ℕ) → (before now : PlainCounts) → Result Tick OutOfMemory → Type 0
 CountsTick fetches before now (Ok told) = FetchesBy fetches before now
 CountsTick fetches before now (Err error) = FetchesAtMost fetches before now

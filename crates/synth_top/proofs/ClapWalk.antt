@@ -1,5 +1,5 @@
--- Words as clap walks along them, and in plain words: of a command with options that have one value each, and with one word that
--- stands by itself.
+-- Words as clap walks along them, and in plain words: of a command with options that have one value each, and with one
+-- word that stands by itself.
 use Rattle.std.proofs.Common.{◌≡◌, ◌⊎◌, inl, inr, ℕ, ◌||◌, Bool, true, false, List, [], ◌∷◌, ◌++◌, Option, Some, None, refl, sym, ap, ◌∙◌}
 use Rattle.std.proofs.Common.{subst, codes, map, length, append_assoc, append-nil}
 use Rattle.std.specs.declared.alloc.Global.{Global}
@@ -500,7 +500,8 @@ module _ (s : Shape) (only : IsWordCommand s) where
 
   -- ---- all words, from each place
 
-  -- words from each place where the walk may stand: nothing waits for a value, before `--` and behind it; or an option does
+  -- words from each place where the walk may stand: nothing waits for a value, before `--` and behind it; or an option
+  -- does
   record Reads (words : List Text) : Type 0 where
     pub before_end : (h : Held) (taken : List NamedValue) (position : ℕ) → h.skip ≡ 0 → CanSettle h taken → IsPlace position taken
         → Agrees s (between h idle position false) words taken (values_in None words)

@@ -1,6 +1,7 @@
 -- the limits: their values
 pub mod Limits
--- `given` and `bad` of read_by: uses of arguments, the looks of words, words as clap walks along them, and the command's own
+-- `given` and `bad` of read_by: uses of arguments, the looks of words, words as clap walks along them, and the
+-- command's own
 pub mod ClapUses
 pub mod ClapLooks
 pub mod ClapWalk
@@ -13,8 +14,8 @@ pub mod KeyLists
 pub mod CountsInTurn
 -- `made` of Editor::make_steps: ticks one after the other
 pub mod TicksInOrder
--- `presses` of Editor::press and press_keys: turns of a state of which less is claimed, turns along a list of keys, one key, and
--- keys after others
+-- `presses` of Editor::press and press_keys: turns of a state of which less is claimed, turns along a list of keys, one
+-- key, and keys after others
 pub mod ClaimedFiles
 pub mod TurnsInOrder
 pub mod OneKey

@@ -1,4 +1,5 @@
--- The ticks of a key, one after the other: each that shows a step goes on to the others, and one that is over is the last.
+-- The ticks of a key, one after the other: each that shows a step goes on to the others, and one that is over is the
+-- last.
 use Rattle.std.proofs.Common.{◌≡◌, ◌<◌, ◌≤◌, ◌⊎◌, inl, inr, ℕ, zero, suc, ◌+◌, Bool, true, false, if◌then◌else◌, List, [], ◌∷◌, ◌++◌, length, take, Option, Some, None, Result, Ok, Err, OnOk, refl, sym, ap, ◌∙◌, subst, append_assoc, append-nil, length-append, arith}
 use Rattle.std.proofs.Math.Bool.{false≢true}
 use Rattle.std.proofs.lemmas.List.{map-append, take_all}
@@ -168,7 +169,8 @@ shows_step steps s again =
 
 -- ---- ticks that were made
 
--- so many ticks were made from a session on, each of which shows a step, with these shots; the others are those of the session after them
+-- so many ticks were made from a session on, each of which shows a step, with these shots; the others are those of the
+-- session after them
 pub record TicksMade (first now : PlainSession) (done : ℕ) (made : List Shot) : Type 0 where
   pub others : (ticks_from first).shots ≡ made ++ (ticks_from now).shots
   pub at_end : (ticks_from first).after ≡ (ticks_from now).after

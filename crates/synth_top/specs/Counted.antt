@@ -20,9 +20,10 @@ abbrev pub FetchesFor : (number : ℕ) (due : Option ℕ) (before now : ℕ) →
 FetchesFor number None before now = now ≡ raised_by number before
 FetchesFor number (Some due) before now = (raised_by number before ≤ now) × (now ≤ before + due)
 
--- what is counted for the shots that were made under a bill: no more phrases are checked and no more instructions emitted than the
--- bill says, just as many instructions are fetched as for the shots, and at most as many lines are laid as their windows
--- have rows. Where memory ran out, it is told how many instructions were due in all, and then at most these are fetched
+-- what is counted for the shots that were made under a bill: no more phrases are checked and no more instructions
+-- emitted than the bill says, just as many instructions are fetched as for the shots, and at most as many lines are
+-- laid as their windows have rows. Where memory ran out, it is told how many instructions were due in all, and then at
+-- most these are fetched
 pub record CountsFor (bill : Bill) (made : List Shot) (due : Option ℕ) (before now : PlainCounts) : Type 0 where
   pub emitted : now.emitted ≤ before.emitted + bill.emits
   pub emitted_later : before.emitted ≤ now.emitted

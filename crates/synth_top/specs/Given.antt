@@ -37,7 +37,8 @@ is_option_name name =
 
 -- ---- the values of all words
 
--- a value that words give, with the name that it is for: that of an option, or `program` for a word that stands by itself
+-- a value that words give, with the name that it is for: that of an option, or `program` for a word that stands by
+-- itself
 pub record NamedValue : Type 0 where
   pub name : List ℕ
   pub value : List ℕ
@@ -57,8 +58,8 @@ abbrev pub option_values : (name : List ℕ) → (in_word : Option (List ℕ))
 option_values name (Some value) behind behind_name = value_before (record { name = name; value = value }) behind
 option_values name None behind behind_name = behind_name
 
--- the values that words give in their order, where the option of the name waits for its value, if there is one; none where
--- the words aren't of the command. Behind `--` each word stands by itself
+-- the values that words give in their order, where the option of the name waits for its value, if there is one; none
+-- where the words aren't of the command. Behind `--` each word stands by itself
 unfoldable pub values_in : (waiting : Option (List ℕ)) → List (List ℕ) → Option (List NamedValue)
 values_in None [] = Some []
 values_in (Some name) [] = None

@@ -34,8 +34,8 @@ abbrev pub program_request : (name : Option (List ℕ)) → Request
 program_request None = Request.Nothing
 program_request (Some name) = Request.Load name
 
--- files with this map can reply so for the input: its bytes are the content of the name, and no more than may be; or there is
--- none for this reason; want of memory is no reply
+-- files with this map can reply so for the input: its bytes are the content of the name, and no more than may be; or
+-- there is none for this reason; want of memory is no reply
 abbrev pub IsInputReply : Option FileMap → (name : Option (List ℕ)) → InputReply → Type 0
 IsInputReply stored None reply = reply ≡ InputReply.NotAsked
 IsInputReply stored (Some name) InputReply.NotAsked = ⊥

@@ -38,7 +38,13 @@ options_with given =
     option_and_then (λ cols.
     option_and_then (λ keys.
     if is_name_given given.program && is_name_given given.input
-    then Some (record { size = record { rows = rows; cols = cols }; key_limit = keys; program = given.program; input = given.input })
+    then Some
+    (record {
+      size = record { rows = rows; cols = cols };
+      key_limit = keys;
+      program = given.program;
+      input = given.input;
+    })
     else None)
     (count_given FEWEST_KEYS MOST_KEYS MOST_KEYS given.keys))
     (count_given FEWEST_COLS MOST_COLS USUAL_COLS given.cols))

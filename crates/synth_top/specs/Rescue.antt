@@ -8,8 +8,8 @@ use Rattle.synth_top.specs.declared.status.Status.{Status}
 use Rattle.synth_top.specs.declared.status.Status.TheVariants.{NoMemory}
 use Rattle.synth_top.specs.Turn.{EditorState}
 
--- what was saved at the end of a run: nothing was to be saved; the program was; or it wasn't, since a call on the files failed,
--- or since they wanted memory
+-- what was saved at the end of a run: nothing was to be saved; the program was; or it wasn't, since a call on the files
+-- failed, or since they wanted memory
 pub data Rescue : Type 0 where
   NoRescue : Rescue
   Rescued : Rescue

@@ -16,7 +16,8 @@ use Rattle.synth_session.specs.Press.{press}
 use Rattle.synth_session.specs.SessionScreen.{grid, screen_fetches}
 use Rattle.synth_session.specs.Tick.{AreMade, Steps, TickOutcome, after_steps, program_steps, steps_left, tick}
 
--- what a key's turn begins with: the session, and the map of the files; where there is none, nothing is claimed of the files
+-- what a key's turn begins with: the session, and the map of the files; where there is none, nothing is claimed of the
+-- files
 pub record EditorState : Type 0 where
   pub session : PlainSession
   pub files : Option FileMap
@@ -26,8 +27,8 @@ abbrev pub IsToldAs : (claimed told : Option FileMap) → Type 0
 IsToldAs None told = Unit {0}
 IsToldAs (Some map) told = told ≡ Some map
 
--- a key that is pressed in a turn, what is replied to what it asks, and, where its turn was left before its end, how many
--- steps of the program's run were made in it
+-- a key that is pressed in a turn, what is replied to what it asks, and, where its turn was left before its end, how
+-- many steps of the program's run were made in it
 pub record PressedKey : Type 0 where
   pub key : Key
   pub reply : Reply
@@ -72,12 +73,14 @@ makes_steps Done = false
 makes_steps (Refused why) = false
 makes_steps Running = true
 
--- a shot: a screen that is shown in a turn, and how many instructions were fetched in the turn for it, since the shot before
+-- a shot: a screen that is shown in a turn, and how many instructions were fetched in the turn for it, since the shot
+-- before
 pub record Shot : Type 0 where
   pub screen : PlainGrid
   pub fetched : ℕ
 
--- the shot of a session, before which so many instructions were fetched in the turn; those that it shows are fetched too
+-- the shot of a session, before which so many instructions were fetched in the turn; those that it shows are fetched
+-- too
 abbrev pub shot_after : (fetched : ℕ) → PlainSession → Shot
 shot_after fetched s = record { screen = grid s; fetched = fetched + screen_fetches s }
 
@@ -136,7 +139,8 @@ after_ticks steps (suc number) s = (tick steps (after_ticks steps number s)).aft
 abbrev pub left_session : Steps → (number : ℕ) → PlainSession → PlainSession
 left_session steps number s = if s.trace then after_ticks steps number s else after_steps steps number s
 
--- the shots of the turn of a key with this outcome that is left after so many steps: those of the steps, where they are shown
+-- the shots of the turn of a key with this outcome that is left after so many steps: those of the steps, where they are
+-- shown
 abbrev pub left_shots : (number : ℕ) → KeyOutcome → List Shot
 left_shots number outcome = if outcome.after.trace then take number (all_ticks outcome).shots else []
 
@@ -163,7 +167,8 @@ still_turn outcome files = record {
   ends = is_quit outcome.answer;
 }
 
--- the turn of a key with this outcome, after which the files have this map; it was left after so many steps, or came to its end
+-- the turn of a key with this outcome, after which the files have this map; it was left after so many steps, or came to
+-- its end
 abbrev pub turn_with : KeyOutcome → Option FileMap → (left_after : Option ℕ) → Turn
 turn_with outcome files left_after =
     if makes_steps outcome.answer then running_turn outcome files left_after else still_turn outcome files

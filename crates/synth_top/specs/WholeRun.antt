@@ -99,8 +99,8 @@ pub record Course (options : PlainOptions) (first : EditorState) (before now : T
   -- how many reads of keys the whole run made
   pub reads : ℕ
   pub made : now.reads ≡ raised_by reads before.reads
-  -- the keys pressed, each with what was replied in it; none but the last was left before its end, and what isn't complete is
-  -- pressed only where no byte comes any more
+  -- the keys pressed, each with what was replied in it; none but the last was left before its end, and what isn't
+  -- complete is pressed only where no byte comes any more
   pub pressed : List PressedKey
   pub can_reply : HaveReplies first pressed
   pub left : LeftAtLast first pressed
@@ -226,7 +226,9 @@ module _ {options : PlainOptions} {first : EditorState} {before now : ToldStream
   Stopped wants_before wants_now ReadFault = AllWritten × ReadCut
   Stopped wants_before wants_now WriteFault = NoneLost × (OpeningCut ⊎ ScreenCut)
   Stopped wants_before wants_now NoMemory =
-      (AllWritten × ReadCut) ⊎ ((NoneLost × (OpeningCut ⊎ ScreenCut) × Rose before.wants now.wants) ⊎ (AllWritten × NoneLost × TurnWanted wants_before wants_now))
+      (AllWritten × ReadCut)
+      ⊎ ((NoneLost × (OpeningCut ⊎ ScreenCut) × Rose before.wants now.wants)
+      ⊎ (AllWritten × NoneLost × TurnWanted wants_before wants_now))
   Stopped wants_before wants_now BadWords = ⊥
 
   -- in a whole run the bill of the turn in which memory ran out, where the key isn't among those pressed
@@ -242,21 +244,22 @@ module _ {options : PlainOptions} {first : EditorState} {before now : ToldStream
   last_bill wants_before wants_now NoMemory (inr (inr later)) = wanted_bill wants_before wants_now later.2
   last_bill wants_before wants_now status stopped = no_bill
 
-  -- the bill of a whole run that stopped so, from the opening screen on: those of the keys pressed together, and that of
-  -- a key which wanted memory
+  -- the bill of a whole run that stopped so, from the opening screen on: those of the keys pressed together, and that
+  -- of a key which wanted memory
   abbrev pub run_bill : (wants_before wants_now : ℕ) (status : Status) → Stopped wants_before wants_now status → Bill
   run_bill wants_before wants_now status stopped =
       both_bills (bills first course.pressed) (last_bill wants_before wants_now status stopped)
 
-  -- the shots that were due in a whole run where memory ran out in a turn: those of the turn of the key that wanted some,
-  -- as if it hadn't, or those of the last turn as if it had come to its end
+  -- the shots that were due in a whole run where memory ran out in a turn: those of the turn of the key that wanted
+  -- some, as if it hadn't, or those of the last turn as if it had come to its end
   abbrev pub wanted_shots : (wants_before wants_now : ℕ) → TurnWanted wants_before wants_now → List Shot
   wanted_shots wants_before wants_now (inl last) =
       all_shots ++ (turn state_after (pressed_whole last.wanted last.reply)).shots
   wanted_shots wants_before wants_now (inr step) =
       shot_of first.session ∷ shots first (step.at_key.earlier ++ record (step.at_key.last) { left_after = None } ∷ [])
 
-  -- how many instructions were due in a whole run that stopped so, where memory ran out in a turn, and else none is told
+  -- how many instructions were due in a whole run that stopped so, where memory ran out in a turn, and else none is
+  -- told
   abbrev pub fetches_due : (wants_before wants_now : ℕ) (status : Status) → Stopped wants_before wants_now status
       → Option ℕ
   fetches_due wants_before wants_now NoMemory (inl cut) = None
@@ -313,7 +316,8 @@ pub record Ran (status : Status) (options : PlainOptions) (before now : Told)
   pub files : IsToldAs (files_with rescue (state_after course)) now.files.stored
   pub faults : RoseBy (load_failures loads + failures course.pressed + rescue_failure rescue)
       before.files.faults now.files.faults
-  -- what was counted: under the bill of the opening and those of the keys, for the shot of the opening screen and those of the keys
+  -- what was counted: under the bill of the opening and those of the keys, for the shot of the opening screen and those
+  -- of the keys
   pub counts : CountsFor (both_bills (opening_bill loads) (run_bill course before.files.wants wants status stopped))
       (all_shots course) (fetches_due course before.files.wants wants status stopped) before.counts now.counts
 

@@ -5,7 +5,8 @@ mod Limits
 -- `edited` of each edit, `undo` and `slot_edit_is_path_edit`: what an edit does by slot and at a path, and what stands
 -- there after it
 pub mod Edits
--- `Tree::new`, `node_mut`, `path_of`, `built`, `copy_node` and `Node::copy`: nodes and trees that are made, lent and found
+-- `Tree::new`, `node_mut`, `path_of`, `built`, `copy_node` and `Node::copy`: nodes and trees that are made, lent and
+-- found
 pub mod Trees
 -- `fill`, `fill_assign`, `insert` and `take`, `put_keeps_tree`: nodes that come into the place of others
 pub mod Puts

@@ -21,8 +21,8 @@ pub record PassesAll (before now : Streams) (bytes : List ℕ) : Type 0 where
   pub passed : Appends before.passed now.passed (passed_of bytes)
   pub rung : Appends before.rung now.rung (bells_of bytes)
 
--- these bytes were read, and perhaps some more were lost; all that passes of these was passed, and the bells of all sequences
--- but perhaps the last were rung
+-- these bytes were read, and perhaps some more were lost; all that passes of these was passed, and the bells of all
+-- sequences but perhaps the last were rung
 pub record PassesRead (before now : Streams) (bytes : List ℕ) : Type 0 where
   pub between : Option (List ℕ)
   pub read : Consumes before.left between bytes

@@ -34,23 +34,23 @@ is_console_key sequence = slice_index sequence 1 == 91 && slice_index sequence 2
 abbrev pub is_mouse : List ℕ → Bool
 is_mouse sequence = slice_index sequence 1 == 91 && slice_index sequence 2 == 77
 
--- whether a sequence that ESC begins has its last byte: that of the console has four, a mouse's six, and any other ends with
--- the first byte behind `[` or `O` that can end it
+-- whether a sequence that ESC begins has its last byte: that of the console has four, a mouse's six, and any other ends
+-- with the first byte behind `[` or `O` that can end it
 abbrev pub is_whole_escape : List ℕ → Bool
 is_whole_escape sequence =
     if is_console_key sequence then nat_le 4 (length sequence)
     else (if is_mouse sequence then nat_le 6 (length sequence)
     else nat_le 3 (length sequence) && is_final (slice_index sequence (length sequence - 1)))
 
--- whether a sequence has its last byte: a letter beyond ASCII has all of its bytes, and every other byte that isn't ESC is
--- a sequence by itself. The longest are cut off
+-- whether a sequence has its last byte: a letter beyond ASCII has all of its bytes, and every other byte that isn't ESC
+-- is a sequence by itself. The longest are cut off
 unfoldable pub is_whole : List ℕ → Bool
 is_whole sequence = nat_le LONGEST (length sequence) ||
     (if is_escape sequence then is_whole_escape sequence
     else nat_lt (trailing_bytes (slice_index sequence 0)) (length sequence))
 
--- whether a byte can stand in a sequence behind those before it: any at its beginning, `[` or `O` behind ESC, and behind these
--- what is printed; a mouse may send bytes beyond ASCII
+-- whether a byte can stand in a sequence behind those before it: any at its beginning, `[` or `O` behind ESC, and
+-- behind these what is printed; a mouse may send bytes beyond ASCII
 unfoldable pub can_follow : List ℕ → ℕ → Bool
 can_follow begun byte =
     if nat_le (length begun) 0 then true
@@ -68,8 +68,8 @@ abbrev pub begun_alone : List ℕ → List (List ℕ)
 begun_alone [] = []
 begun_alone (first ∷ rest) = (first ∷ rest) ∷ []
 
--- the sequences of bytes, the first of which has begun with the bytes before these: each byte that belongs to the sequence
--- before it goes on with it, and every other one begins the next. The last may lack bytes
+-- the sequences of bytes, the first of which has begun with the bytes before these: each byte that belongs to the
+-- sequence before it goes on with it, and every other one begins the next. The last may lack bytes
 unfoldable pub sequences : (begun bytes : List ℕ) → List (List ℕ)
 sequences begun [] = begun_alone begun
 sequences begun (byte ∷ rest) =
@@ -111,8 +111,8 @@ abbrev pub is_arrow : List ℕ → Bool
 is_arrow sequence =
     bytes_eq sequence up || (bytes_eq sequence down || (bytes_eq sequence right || bytes_eq sequence left))
 
--- what passes of a sequence that has its last byte: an ASCII byte and an arrow as they are, ten arrows of a page key, and
--- nothing of every other one
+-- what passes of a sequence that has its last byte: an ASCII byte and an arrow as they are, ten arrows of a page key,
+-- and nothing of every other one
 unfoldable pub passed_of_whole : List ℕ → List ℕ
 passed_of_whole sequence =
     if length sequence == 1 then (if nat_lt (slice_index sequence 0) 128 then sequence else [])

@@ -43,7 +43,8 @@ impl Begun {
         requires short { length bytes.now ≤ 128 }
         requires no_passes { passes.old.items ≡ [] }
         requires no_bells { bells.old.items ≡ [] }
-        ensures passes { GivesBehind passed_of_sequence self.old.bytes.items bytes.now passes.new.items self.new.bytes.items }
+        ensures passes { GivesBehind passed_of_sequence self.old.bytes.items bytes.now passes.new.items
+            self.new.bytes.items }
         ensures bells { GivesBehind bell self.old.bytes.items bytes.now bells.new.items self.new.bytes.items }
     {
         for byte in bytes {
@@ -55,8 +56,10 @@ impl Begun {
     fn take(&mut self, byte: u8, passes: &mut Passed, bells: &mut Bells)
         requires room { array_vec_len passes.old ≤ 4064 }
         requires bells_room { array_vec_len bells.old ≤ 510 }
-        ensures passes { GivesMore passed_of_sequence self.old.bytes.items (byte ∷ []) passes.old.items passes.new.items self.new.bytes.items }
-        ensures bells { GivesMore bell self.old.bytes.items (byte ∷ []) bells.old.items bells.new.items self.new.bytes.items }
+        ensures passes { GivesMore passed_of_sequence self.old.bytes.items (byte ∷ []) passes.old.items passes.new.items
+            self.new.bytes.items }
+        ensures bells { GivesMore bell self.old.bytes.items (byte ∷ []) bells.old.items bells.new.items
+            self.new.bytes.items }
         ensures few { array_vec_len passes.new ≤ array_vec_len passes.old + 30 }
         ensures few_bells { array_vec_len bells.new ≤ array_vec_len bells.old + 2 }
     {
@@ -82,8 +85,10 @@ impl Begun {
         requires follows { can_follow self.old.bytes.items byte ≡ true }
         requires room { array_vec_len passes.old ≤ 4064 }
         requires bells_room { array_vec_len bells.old ≤ 511 }
-        ensures passes { GivesMore passed_of_sequence self.old.bytes.items (byte ∷ []) passes.old.items passes.new.items self.new.bytes.items }
-        ensures bells { GivesMore bell self.old.bytes.items (byte ∷ []) bells.old.items bells.new.items self.new.bytes.items }
+        ensures passes { GivesMore passed_of_sequence self.old.bytes.items (byte ∷ []) passes.old.items passes.new.items
+            self.new.bytes.items }
+        ensures bells { GivesMore bell self.old.bytes.items (byte ∷ []) bells.old.items bells.new.items
+            self.new.bytes.items }
         ensures few { array_vec_len passes.new ≤ array_vec_len passes.old + 30 }
         ensures few_bells { array_vec_len bells.new ≤ array_vec_len bells.old + 1 }
     {

@@ -1,5 +1,6 @@
 -- Each edit of a tree is a step, and steps in turn are one way.
--- What a call answers names the node at its path, its edit and the tree after it without room; its condition there gives the sort.
+-- What a call answers names the node at its path, its edit and the tree after it without room; its condition there
+-- gives the sort.
 use Rattle.std.specs.Prelude.{◌≡◌, refl, ℕ, zero, suc, List, Option, Some, None, Bool, true, false, if◌then◌else◌, is_some, unwrap_or}
 use Rattle.std.proofs.Common.{ap, sym, ◌∙◌, inl, inr}
 use Rattle.std.proofs.lemmas.Option.{none-some}

@@ -1,5 +1,6 @@
 -- What stands in a slot of the tree before an edit stood there at the same place, in a node of the same sort.
--- What an edit brings into a slot has slots that were not drawn yet, but for the node in that slot itself, which has its sort.
+-- What an edit brings into a slot has slots that were not drawn yet, but for the node in that slot itself, which has
+-- its sort.
 use Rattle.std.specs.Prelude.{◌≡◌, refl, ℕ, ◌+◌, ◌<◌, ◌≤◌, ◌==◌, Bool, true, false, if◌then◌else◌, List, [], ◌∷◌, ◌++◌, Option, Some, None, ◌⊎◌}
 use Rattle.std.proofs.Common.{ap, sym, ◌∙◌, arith, inl, inr}
 use Rattle.std.proofs.lemmas.Bool.{eqb-true}

@@ -34,8 +34,8 @@ declaration = PlainPhrase.declared_list (record { name = codes "x"; size = None 
 abbrev call : PlainPhrase
 call = PlainPhrase.call (codes "p") PlainExprs.nil
 
--- inside main x declared, and a For over a group of a GET of x twice, an empty GET and a GET of y twice, which is marked; then
--- a CALL and a hole
+-- inside main x declared, and a For over a group of a GET of x twice, an empty GET and a GET of y twice, which is
+-- marked; then a CALL and a hole
 abbrev main_inner : Forest
 main_inner =
     leaf (filled 1 Template.Fixed (Some declaration ∷ []))

@@ -1,5 +1,6 @@
 -- Trees that agree keep loops, starts and places.
--- A slot that is live in both has one sort and the same nodes around it; what else a place asks for is the kind, the parts and the mark.
+-- A slot that is live in both has one sort and the same nodes around it; what else a place asks for is the kind, the
+-- parts and the mark.
 use Rattle.std.specs.Prelude.{◌≡◌, refl, ℕ, ◌==◌, ◌&&◌, ◌||◌, Bool, true, false, List, [], Option, Some, IsTrue}
 use Rattle.std.proofs.Common.{ap, sym, ◌∙◌, subst, inl, inr}
 use Rattle.plcs_grammar.specs.declared.node_kind.NodeKind.{NodeKind}

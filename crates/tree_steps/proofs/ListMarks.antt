@@ -1,5 +1,6 @@
 -- The mark of a variable list is the offence that its procedure's items make of it.
--- Its slot stands once, so that among the verdicts of the program its own is the one that is found; and that looks at these items alone.
+-- Its slot stands once, so that among the verdicts of the program its own is the one that is found; and that looks at
+-- these items alone.
 use Rattle.std.specs.Prelude.{◌≡◌, refl, ℕ, zero, suc, ◌+◌, ◌<◌, ◌≤◌, ◌==◌, ◌&&◌, nat_eq, Bool, true, false, cond, if◌then◌else◌, List, [], ◌∷◌, ◌++◌, Option, Some, None, is_some, option_map, slice_get, unwrap_or}
 use Rattle.std.specs.FinMap.{find, get-from_entries}
 use Rattle.std.specs.Option.{option_flatten, option_or}

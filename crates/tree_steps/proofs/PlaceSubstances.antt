@@ -1,5 +1,6 @@
 -- Places look at neither room nor elision.
--- A site is found by slots, and where a run begins by kinds; both are in the substance of nodes. Marks are the same since the verdicts are.
+-- A site is found by slots, and where a run begins by kinds; both are in the substance of nodes. Marks are the same
+-- since the verdicts are.
 use Rattle.std.specs.Prelude.{◌≡◌, ◌↔◌, refl, ℕ, ◌==◌, Bool, true, false, if◌then◌else◌, Option, Some, None, option_map, is_some, IsTrue}
 use Rattle.std.specs.FinMap.{get}
 use Rattle.std.specs.Option.{option_or}

@@ -1,5 +1,6 @@
 -- A site is of the node that stands in its slot, and a run that comes to a statement begins at one in the same loops.
--- Only groups and comments pass a run on to what stands inside them; these are no loops, and their first item is a statement.
+-- Only groups and comments pass a run on to what stands inside them; these are no loops, and their first item is a
+-- statement.
 use Rattle.std.specs.Prelude.{◌≡◌, refl, ℕ, ◌<◌, ◌≤◌, ◌==◌, ◌&&◌, ◌||◌, IsTrue, Bool, true, false, if◌then◌else◌, List, [], ◌∷◌, ◌++◌, length, slice_index_or, Option, Some, None, option_map, ◌⊎◌}
 use Rattle.std.specs.Option.{option_or}
 use Rattle.std.proofs.Common.{ap, sym, ◌∙◌, subst, arith, append-nil, inl, inr}

@@ -1,5 +1,6 @@
 -- A slot that is there but once stands at one place, and its procedure is the outermost node round it.
--- Both are inductions on the nodes: a slot stands in a node, inside it or behind it, and twice in two of these would count two.
+-- Both are inductions on the nodes: a slot stands in a node, inside it or behind it, and twice in two of these would
+-- count two.
 use Rattle.std.specs.Prelude.{◌≡◌, refl, ℕ, zero, suc, ◌+◌, ◌<◌, ◌≤◌, ◌==◌, nat_lt, Bool, true, false, if◌then◌else◌, List, [], ◌∷◌, find, Option, Some, option_map}
 use Rattle.std.proofs.Common.{ap, sym, ◌∙◌, arith, inl, inr}
 use Rattle.std.proofs.lemmas.Bool.{eq-eqb, eqb-true, lt-ltb, le-ltb}

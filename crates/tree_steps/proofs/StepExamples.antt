@@ -252,8 +252,8 @@ statement_stands = inr (inl (inr (inr (inr (inr (inl (refl, refl, refl)))))))
 declaration_stands : StandsInside declaration_added.items 4 NodeKind.DeclarationHole in_main
 declaration_stands = inr (inl (inr (inr (inl (refl, refl, refl)))))
 
--- a slot that comes back with another meaning: slot 4 drawn again, for a declaration hole. Agreement isn't transitive: each of
--- the two before holds, through a tree without that slot
+-- a slot that comes back with another meaning: slot 4 drawn again, for a declaration hole. Agreement isn't transitive:
+-- each of the two before holds, through a tree without that slot
 comes_back_otherwise : AgreesWith statement_added declaration_added → ⊥
 comes_back_otherwise agrees =
     let alike = agrees.alike 4 NodeKind.StatementHole NodeKind.DeclarationHole in_main in_main statement_stands declaration_stands in

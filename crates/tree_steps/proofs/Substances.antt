@@ -1,5 +1,6 @@
 -- Slots stand at the same places in nodes of the same substance, and a turned comment keeps it.
--- Standing looks at slots and kinds alone, which the substance keeps; an edit at a path by a change that keeps the substance of its node keeps it.
+-- Standing looks at slots and kinds alone, which the substance keeps; an edit at a path by a change that keeps the
+-- substance of its node keeps it.
 use Rattle.std.specs.Prelude.{◌≡◌, refl, ℕ, zero, suc, Bool, true, false, not, if◌then◌else◌, List, [], ◌∷◌, ◌⊎◌}
 use Rattle.std.proofs.Common.{ap, sym, ◌∙◌}
 use Rattle.plcs_grammar.specs.declared.node_kind.NodeKind.{NodeKind}

@@ -53,8 +53,8 @@ GoingBackAgrees =
     (earlier kept back : PlainTree) → AgreesWith earlier kept
     → substance back.items ≡ substance kept.items → kept.drawn ≤ back.drawn → AgreesWith earlier back
 
--- going back to a tree past one that agreed with it: what is gone back to agrees with the one that was left, as long as the
--- slots of that one stay drawn
+-- going back to a tree past one that agreed with it: what is gone back to agrees with the one that was left, as long as
+-- the slots of that one stay drawn
 abbrev pub GoingBackPastAgrees : Type 0
 GoingBackPastAgrees =
     (one other back : PlainTree) → AgreesWith one other → AllBelow back.drawn other.items

@@ -23,8 +23,9 @@ BringsSort (TreeEdit.add side) node = Unit {0}
 BringsSort TreeEdit.drop node = Unit {0}
 BringsSort (TreeEdit.set_part part place) node = Unit {0}
 
--- one edit, at the node at a path, made one tree of the other, but for elision and room. The calls that edit ask for more of
--- the node, which no law of steps needs. Undoing is no such step: slots that were gone come back, which no edit brings
+-- one edit, at the node at a path, made one tree of the other, but for elision and room. The calls that edit ask for
+-- more of the node, which no law of steps needs. Undoing is no such step: slots that were gone come back, which no edit
+-- brings
 pub record IsEditStep (before after : PlainTree) : Type 0 where
   pub edit : TreeEdit
   pub path : List ℕ
@@ -40,6 +41,7 @@ abbrev pub CameIn : ℕ → (before after : PlainTree) → Type 0
 CameIn zero before after = IsSameTree before after
 CameIn (suc n) before after = (between : PlainTree) × CameIn n before between × IsEditStep between after
 
--- edits, one after the other, made one tree of the other; none if they are the same. Between them comments may be turned
+-- edits, one after the other, made one tree of the other; none if they are the same. Between them comments may be
+-- turned
 abbrev pub CameByEdits : (before after : PlainTree) → Type 0
 CameByEdits before after = (n : ℕ) × CameIn n before after

@@ -18,8 +18,8 @@ ListVerdictsFollowItems =
     → verdict (surroundings one procedure slot) (PlainPhrase.variable_list targets)
     ≡ verdict (surroundings other other_procedure other_slot) (PlainPhrase.variable_list targets)
 
--- a list of variables in the first part of a slot is marked where one of them is an offence by the effective items of its
--- procedure, which is among those of the program; nothing else in the program counts
+-- a list of variables in the first part of a slot is marked where one of them is an offence by the effective items of
+-- its procedure, which is among those of the program; nothing else in the program counts
 abbrev pub ListMarksFollowItems : Type 0
 ListMarksFollowItems =
     (items : Forest) (slot procedure : ℕ) (found : Site) (targets : List PlainVarRef)

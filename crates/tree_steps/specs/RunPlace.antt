@@ -26,12 +26,13 @@ HasPlace program place = Exists (is_first_marked program) program place
 abbrev pub KeepsPoint : (one other : Label) (was_marked is_marked : Bool) (point : ℕ) → Type 0
 KeepsPoint one other was_marked is_marked point =
     (point ≡ 0)
-    ⊎ ((one.kind ≡ other.kind) × (one.parts ≡ other.parts) × (one.kind ≡ NodeKind.Filled Template.Get → was_marked ≡ is_marked))
+    ⊎ ((one.kind ≡ other.kind) × (one.parts ≡ other.parts)
+    × (one.kind ≡ NodeKind.Filled Template.Get → was_marked ≡ is_marked))
 
 -- ---- where a run begins
 
--- the place is one of the program: the start of a statement that doesn't pass a run on to what stands inside it, with the
--- loops among these nodes around it, in the procedure of the slot that these are around
+-- the place is one of the program: the start of a statement that doesn't pass a run on to what stands inside it, with
+-- the loops among these nodes around it, in the procedure of the slot that these are around
 pub record BeginsAt (items : Forest) (slot : ℕ) (around : Around) (place : PlainPlace) : Type 0 where
   pub start : place.point ≡ 0
   pub kind : NodeKind
@@ -50,8 +51,8 @@ abbrev pub site_substance : Site → Site
 site_substance site =
     record { label = record site.label { elided = false; spare = 0 }; inner = substance site.inner; after = site.after }
 
--- two programs have the same sites but for elision and room: a run begins and goes on in both at the same places, and has the
--- same places where the same is marked
+-- two programs have the same sites but for elision and room: a run begins and goes on in both at the same places, and
+-- has the same places where the same is marked
 pub record SitesAlike (one other : Forest) : Type 0 where
   pub sites : (slot : ℕ) → option_map site_substance (site one slot) ≡ option_map site_substance (site other slot)
   pub starts : (slot : ℕ) → Start one slot ≡ Start other slot

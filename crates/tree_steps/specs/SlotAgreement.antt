@@ -6,9 +6,9 @@ use Rattle.template_tree.specs.Programs.Program.{sort_of}
 use Rattle.template_tree.specs.Programs.Slots.{AllBelow}
 use Rattle.tree_steps.specs.StandingSlot.{Around, StandsInside}
 
--- the slots of the earlier tree are all drawn in the later one; a slot that is live in both holds nodes of one sort there,
--- with the same nodes around them, of the same kinds. A slot that is gone may have come back.
--- Agreement isn't transitive: a slot that the tree between doesn't have may mean one thing in the first and another in the last
+-- the slots of the earlier tree are all drawn in the later one; a slot that is live in both holds nodes of one sort
+-- there, with the same nodes around them, of the same kinds. A slot that is gone may have come back. Agreement isn't
+-- transitive: a slot that the tree between doesn't have may mean one thing in the first and another in the last
 pub record AgreesWith (earlier later : PlainTree) : Type 0 where
   pub drawn : AllBelow later.drawn earlier.items
   pub alike :

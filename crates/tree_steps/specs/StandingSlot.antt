@@ -19,7 +19,8 @@ StandsBelow above (Forest.cons label inner rest) slot kind around =
 abbrev pub StandsInside : Forest → (slot : ℕ) → NodeKind → (around : Around) → Type 0
 StandsInside items slot kind around = StandsBelow [] items slot kind around
 
--- the slot of the outermost node round a slot, or that slot itself where nothing is around it: that of main or its procedure
+-- the slot of the outermost node round a slot, or that slot itself where nothing is around it: that of main or its
+-- procedure
 abbrev pub outermost_slot : (slot : ℕ) → Around → ℕ
 outermost_slot slot [] = slot
 outermost_slot slot (node ∷ around) = outermost_slot node.0 around

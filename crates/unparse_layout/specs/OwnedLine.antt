@@ -46,7 +46,8 @@ stretches_of next (segment ∷ segments) parts =
 -- a line of the screen that belongs to a node, and in which no part stands
 abbrev pub partless_line : ℕ → LineKind → ℕ → List ℕ → OwnedLine
 partless_line slot kind level bytes =
-    record { slot = slot; kind = kind; level = level; stretches = record { part = None; filled = false; bytes = bytes } ∷ [] }
+    record
+    { slot = slot; kind = kind; level = level; stretches = record { part = None; filled = false; bytes = bytes } ∷ [] }
 
 -- a line of the screen that belongs to a node, and that the table of templates has as it stands, or none where it has
 -- none
@@ -57,10 +58,15 @@ table_line slot kind level (Some bytes) = partless_line slot kind level bytes �
 -- the line of the screen that belongs to a node as its first one
 abbrev pub first_line : ℕ → Label → OwnedLine
 first_line level label =
-    record { slot = label.slot; kind = LineKind.First; level = level; stretches = stretches_of 0 (row_of label.kind).line label.parts }
+    record {
+      slot = label.slot;
+      kind = LineKind.First;
+      level = level;
+      stretches = stretches_of 0 (row_of label.kind).line label.parts;
+    }
 
--- the lines of nodes in order at a level, inside the node in a slot, where these sections are left for them. What stands
--- before a section of a node belongs to that node, as do its last line and the line for its elided refinement
+-- the lines of nodes in order at a level, inside the node in a slot, where these sections are left for them. What
+-- stands before a section of a node belongs to that node, as do its last line and the line for its elided refinement
 abbrev pub owned_lines : (owner level : ℕ) (left : List PlainSection) → Forest → List OwnedLine
 owned_lines owner level left Forest.nil = []
 owned_lines owner level left (Forest.cons label inner rest) =

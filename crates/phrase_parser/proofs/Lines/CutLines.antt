@@ -6,7 +6,8 @@ use Rattle.std.proofs.Math.Seq.{drop-cons, take-suc}
 use Rattle.phrase_parser.specs.LineParts.{with_front, is_quoted_behind, cut_from, cut_at}
 use Rattle.phrase_parser.proofs.Lines.DividedTexts.{begins_here, Passes, passes_byte, passes_append}
 
--- the divider begins nowhere outside of quotes in the front of the line that ends at this place, inside of quotes or outside
+-- the divider begins nowhere outside of quotes in the front of the line that ends at this place, inside of quotes or
+-- outside
 pub record IsUncut (divider text : List ℕ) (inside : Bool) (place : ℕ) : Type 0 where
   pub within : place ≤ length text
   pub passes : Passes divider false (take place text) inside (drop place text)

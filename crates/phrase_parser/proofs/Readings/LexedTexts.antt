@@ -191,7 +191,8 @@ sign_first s behind ends = first_if_found (Token.sign s) (sign_bytes s) behind r
 abbrev pub can_prolong : ℕ → Bool
 can_prolong byte = is_name_byte byte || (is_quote byte || is_second byte)
 
--- nothing, or a byte that leaves each token in front of it as it is, as a blank, a parenthesis or a comma does (by `refl`)
+-- nothing, or a byte that leaves each token in front of it as it is, as a blank, a parenthesis or a comma does (by
+-- `refl`)
 abbrev pub Safe : List ℕ → Type 0
 Safe behind = begins_with can_prolong behind ≡ false
 

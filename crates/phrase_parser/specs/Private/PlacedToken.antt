@@ -24,6 +24,7 @@ kept_kind (Token.sign s) = kind.Sign s
 abbrev pub placed_of : Piece → Placed
 placed_of piece = record { kind = kept_kind piece.token; start = piece.start; end = piece.end }
 
--- the tokens are what is kept of the pieces into which the whole text is cut, up to the place where it stops being tokens
+-- the tokens are what is kept of the pieces into which the whole text is cut, up to the place where it stops being
+-- tokens
 abbrev pub AreTokens : List Placed → Option ℕ → List ℕ → Type 0
 AreTokens placed stop text = (pieces : List Piece) × Cuts pieces 0 text stop × (placed ≡ map placed_of pieces)

@@ -250,10 +250,17 @@ phrase_code =
     (Category × (List PlainVarRef × (PlainExprs × (List Item × (List (List ℕ) × ℕ)))))
     (coded× category_row.the_row.coded
     (coded× (coded_list reference_code)
-    (coded× exprs_code (coded× (coded_list item_row.the_row.coded) (coded× (coded_list (coded_list coded_ℕ)) coded_ℕ)))))
+    (coded× exprs_code
+    (coded× (coded_list item_row.the_row.coded) (coded× (coded_list (coded_list coded_ℕ)) coded_ℕ)))))
     (λ p. let m = made_of p in (m.category, (m.references, (m.exprs, (m.items, (m.names, m.number))))))
     (λ t.
     phrase_from t.0
-    record
-    { category = t.0; references = t.1.0; exprs = t.1.1.0; items = t.1.1.1.0; names = t.1.1.1.1.0; number = t.1.1.1.1.1 })
+    record {
+      category = t.0;
+      references = t.1.0;
+      exprs = t.1.1.0;
+      items = t.1.1.1.0;
+      names = t.1.1.1.1.0;
+      number = t.1.1.1.1.1;
+    })
     phrase_back

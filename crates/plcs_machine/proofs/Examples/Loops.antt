@@ -1,4 +1,5 @@
--- Loops: entered, over at once, taken up again and left. The loop that is left is the one of the slot, wherever it stands.
+-- Loops: entered, over at once, taken up again and left. The loop that is left is the one of the slot, wherever it
+-- stands.
 use Rattle.std.specs.Prelude.{refl, ℕ, ℤ, pos, negsuc, List, [], ◌∷◌, codes}
 use Rattle.plcs_code.specs.PlainInstr.{PlainInstr}
 use Rattle.plcs_store.specs.declared.cell.Cell.{Cell}

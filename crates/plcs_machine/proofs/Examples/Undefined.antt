@@ -78,8 +78,8 @@ calling_by instrs of_p =
       headings = from_entries ((codes "p", record { address = length instrs + 3; slot = record { 0 = 3 } }) ∷ []);
     }
 
--- a step of main without variables, by these instructions and then a call of p with so many arguments, where p has these
--- parameters
+-- a step of main without variables, by these instructions and then a call of p with so many arguments, where p has
+-- these parameters
 abbrev call_by : (instrs : List PlainInstr) → (n : ℕ) → (parameters : List PlainInstr) → Option FetchedAnswer
 call_by instrs n parameters =
     run_behind (calling_by (instrs ++ (PlainInstr.call (codes "p") n ∷ [])) parameters) [] (main_with (place_at 2 0) []) 0

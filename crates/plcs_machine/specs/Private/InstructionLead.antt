@@ -33,7 +33,9 @@ prefix_lead next arguments op values =
 -- the single instruction of an infix operator: what that makes of the two newest operands is pushed
 abbrev pub infix_lead : (next : ℕ) → List Argument → InfixOp → List Value → Outcome Lead
 infix_lead next arguments op values =
-    on_newest (λ b others. on_newest (λ a more. then_gives (infix_value op a b) (push_lead next more arguments)) others) values
+    on_newest
+    (λ b others. on_newest (λ a more. then_gives (infix_value op a b) (push_lead next more arguments)) others)
+    values
 
 -- ---- variables
 

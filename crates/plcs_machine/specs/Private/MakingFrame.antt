@@ -24,8 +24,8 @@ abbrev pub with_argument : (name : List ℕ) → ItemType → Argument → Varia
 with_argument name ty argument variables =
     option_map (λ cell. variables ++ ((name, scalar_variable ty cell) ∷ [])) (argument_cell ty argument)
 
--- the way from an address to the first place of a frame that is made with these variables and arguments, where these are the
--- frames below it
+-- the way from an address to the first place of a frame that is made with these variables and arguments, where these
+-- are the frames below it
 abbrev pub made_way : PlainCode → (fetches address : ℕ) → Variables → List Argument → List Frame
     → Option (Fetched Landing)
 made_way code fetches address variables arguments frames =

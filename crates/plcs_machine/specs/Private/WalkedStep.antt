@@ -30,7 +30,8 @@ use Rattle.plcs_machine.specs.Private.PlainLed.{TakesAtMost, plain_doing, plain_
 abbrev pub nowhere : (address : ℕ) → List Value → List Argument → Option FetchedAnswer
 nowhere address values arguments = None
 
--- the answer of a step behind an instruction that comes to this and doesn't go on to another, where so many fetches are left
+-- the answer of a step behind an instruction that comes to this and doesn't go on to another, where so many fetches are
+-- left
 abbrev pub ending_answer : PlainCode → PlainConfiguration → (left : ℕ) → Outcome Lead → Option FetchedAnswer
 ending_answer code c left outcome = outcome_answer c nowhere (settle c.frames code.instrs left) outcome
 
@@ -46,8 +47,8 @@ run_at code rest c place = option_and_then (run_on code rest c) (get code.addres
 abbrev pub walked_outcome : PlainConfiguration → Walked → List Value → List Argument → Outcome Lead
 walked_outcome c walked values arguments = plain_doing c.output walked.next walked.doing values arguments
 
--- a step that begins behind a place was walked to an instruction that doesn't go on to another: its answer is the answer of the
--- step, and it can be done
+-- a step that begins behind a place was walked to an instruction that doesn't go on to another: its answer is the
+-- answer of the step, and it can be done
 pub record IsWalked (code : PlainCode) (rest : List ℕ) (c : PlainConfiguration) (place : Place) (walked : Walked)
     (values : List Value) (arguments : List Argument) : Type 0 where
   pub few : walked.left + 1 ≤ length code.instrs
@@ -96,8 +97,8 @@ more_fetches wanted = fetches_of wanted - 1
 
 -- ---- what a step did
 
--- what the code answers is the answer that is wanted, after which the configuration and the record are these: a step that is
--- made does an act, and any other changes nothing
+-- what the code answers is the answer that is wanted, after which the configuration and the record are these: a step
+-- that is made does an act, and any other changes nothing
 abbrev pub IsStepDone : (wanted : Option FetchedAnswer) → StepAnswer → (before now : PlainConfiguration)
     → (noted notes : Undo) → Type 0
 IsStepDone wanted StepAnswer.Stepped before now noted notes =

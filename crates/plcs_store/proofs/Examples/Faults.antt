@@ -42,8 +42,9 @@ sets slot target e = record (bare_label slot NodeKind.Assign) { parts = one_part
 abbrev from : List ℕ → ℕ → PlainExpr
 from x i = PlainExpr.builtin Builtin.Substr (PlainExprs.cons (PlainExpr.text x) (alone (number i)))
 
--- the greatest number is raised; a number is divided by 0; the fourth of three cells is set; a text is taken from behind its
--- end on; a text of 256 bytes gets one more; y is read, which isn't set; x is read; 1 is put, and 1 on a new line; p is called
+-- the greatest number is raised; a number is divided by 0; the fourth of three cells is set; a text is taken from
+-- behind its end on; a text of 256 bytes gets one more; y is read, which isn't set; x is read; 1 is put, and 1 on a new
+-- line; p is called
 abbrev main_inner : Forest
 main_inner =
     leaf (sets 1 (reference (codes "x")) (PlainExpr.binary InfixOp.Plus (variable (codes "x")) (number 1)))

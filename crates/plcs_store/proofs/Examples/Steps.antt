@@ -33,8 +33,8 @@ x = PlainExpr.variable (reference (codes "x"))
 abbrev yes_bit : PlainExpr
 yes_bit = PlainExpr.bit true
 
--- x and y declared; x set; an IF over a group, an IFELSE over two PUTs, a DO WHILE over a hole, a For over a comment of a GET, a
--- CALL of q, an empty PUT, and a RETURN
+-- x and y declared; x set; an IF over a group, an IFELSE over two PUTs, a DO WHILE over a hole, a For over a comment of
+-- a GET, a CALL of q, an empty PUT, and a RETURN
 abbrev main_inner : Forest
 main_inner =
     leaf (filled 1 Template.Fixed (one_part (PlainPhrase.declared_list (record { name = codes "x"; size = None } ∷ (record { name = codes "y"; size = None } ∷ [])))))
@@ -97,7 +97,8 @@ spots : Rows
     ∷ (spot 99 0, None) ∷ [])
 spots = refl
 
--- a marked phrase stops the run; the next iteration of a For needs its variable alone; an empty part comes before a mark
+-- a marked phrase stops the run; the next iteration of a For needs its variable alone; an empty part comes before a
+-- mark
 marked_spots : Rows
     ((spot_by (marked_at 2) sample (place_at 2 0), Some (Spot.halts Reason.Marked))
     ∷ (spot_by (marked_at 9) sample (place_at 9 0), Some (Spot.halts Reason.Marked))

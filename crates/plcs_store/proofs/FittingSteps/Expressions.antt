@@ -1,5 +1,5 @@
--- An expression without an offence comes to a value of its kind, or stops for a fault; so do variables where they are used,
--- and arguments.
+-- An expression without an offence comes to a value of its kind, or stops for a fault; so do variables where they are
+-- used, and arguments.
 use Rattle.std.specs.Prelude.{◌≡◌, ℤ, List, [], ◌∷◌, Option, Some, Ok}
 use Rattle.std.proofs.Common.{ap, sym, ◌∙◌, subst}
 use Rattle.plcs_base.specs.declared.declared.Declared.{Declared}

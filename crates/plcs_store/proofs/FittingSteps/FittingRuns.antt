@@ -1,6 +1,7 @@
 -- `what_fits_has_a_step`, `steps_do_allowed_acts`: what fits a tree stands at a place where something goes.
--- The newest frame's place exists, and is no place where it waits; a phrase there that isn't marked has no offence by the items of
--- the frame's procedure, whose cells the frame has, so that each part of the step comes to a value of its kind, or to a fault.
+-- The newest frame's place exists, and is no place where it waits; a phrase there that isn't marked has no offence by
+-- the items of the frame's procedure, whose cells the frame has, so that each part of the step comes to a value of its
+-- kind, or to a fault.
 use Rattle.std.specs.Prelude.{◌≡◌, refl, ℕ, zero, suc, ◌-◌, ◌<◌, ◌≤◌, ◌==◌, nat_le, ◌&&◌, ◌||◌, Bool, true, false, if◌then◌else◌, List, [], ◌∷◌, ◌++◌, All, length, take, slice_get, IsSome, Option, Some, None, is_some, option_and_then, option_map, unwrap_or}
 use Rattle.std.specs.FinMap.{get}
 use Rattle.std.proofs.Common.{ap, sym, ◌∙◌, subst, arith}

@@ -1,6 +1,6 @@
--- What is called is a procedure whose heading is effective: a run begins in it at its first statement, in no loop, and each of
--- its parameters has a kind. The signature and the node are looked up apart, by name and by slot; they are of one procedure, since
--- no slot stands twice.
+-- What is called is a procedure whose heading is effective: a run begins in it at its first statement, in no loop, and
+-- each of its parameters has a kind. The signature and the node are looked up apart, by name and by slot; they are of
+-- one procedure, since no slot stands twice.
 use Rattle.std.specs.Prelude.{◌≡◌, refl, ℕ, ◌≤◌, ◌==◌, ◌&&◌, Bool, true, false, if◌then◌else◌, bytes_eq, List, [], ◌∷◌, Option, Some, None, is_some, option_and_then, option_map, unwrap_or}
 use Rattle.std.specs.List.{IsDistinct, list_all}
 use Rattle.std.specs.Option.{option_or}
@@ -19,7 +19,8 @@ use Rattle.plcs_store.specs.Spot.{Callee, callee_named, callee_of, callee_with, 
 use Rattle.plcs_store.proofs.NewCells.{item_names, names_distinct}
 use Rattle.plcs_store.proofs.KeptFit.GoingOn.{AreWithin, GoesOn, SiteLaws, begin_goes_on, end_goes_on}
 
--- what is called: a procedure of the program with these items, in which a run begins there, and whose parameters have kinds
+-- what is called: a procedure of the program with these items, in which a run begins there, and whose parameters have
+-- kinds
 pub record IsCallee (program : Forest) (callee : Callee) : Type 0 where
   pub start : GoesOn program callee.slot [] callee.start
   pub items : Items program callee.slot ≡ callee.items

@@ -1,6 +1,6 @@
 -- Lists of which an item is changed, put behind the others, or dropped at the end: what is found in them.
--- Frames are found by their numbers, and no act changes more than one of them; so what is found after an act is what was found
--- before it, but for that one. Each lemma is an induction on the list.
+-- Frames are found by their numbers, and no act changes more than one of them; so what is found after an act is what
+-- was found before it, but for that one. Each lemma is an induction on the list.
 use Rattle.std.specs.Prelude.{◌≡◌, refl, ℕ, zero, suc, ◌<◌, List, [], ◌∷◌, ◌++◌, length, take, slice_get, slice_set, Option, Some, None, ◌⊎◌}
 use Rattle.std.proofs.Common.{ap, sym, ◌∙◌, subst, arith, inl, inr}
 use Rattle.std.proofs.lemmas.Option.{none-some, same_Some}

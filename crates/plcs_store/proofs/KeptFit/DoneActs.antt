@@ -1,6 +1,6 @@
 -- What acts make of frames that fit: each act with a place where the run may go on, in the loops that the act leaves.
--- A cell that is set and the newest frame that moves are changed independently of each other; so the frame is moved first, and then
--- the value is stored in frames that fit.
+-- A cell that is set and the newest frame that moves are changed independently of each other; so the frame is moved
+-- first, and then the value is stored in frames that fit.
 use Rattle.std.specs.Prelude.{◌≡◌, refl, ℕ, suc, ◌+◌, ◌-◌, ◌≤◌, List, [], ◌∷◌, ◌++◌, drop, length, map, take, slice_get, Some, option_and_then}
 use Rattle.std.specs.List.{remove}
 use Rattle.std.proofs.Common.{ap, sym, ◌∙◌, subst, arith}

@@ -1,6 +1,6 @@
 -- The frames that fit a program, each by its number: the newest ready for a step, and each other one at its CALL.
--- The definition goes over the list of frames; acts change one frame of a number. Both say the same of each frame, by an induction
--- on the list.
+-- The definition goes over the list of frames; acts change one frame of a number. Both say the same of each frame, by
+-- an induction on the list.
 use Rattle.std.specs.Prelude.{◌≡◌, refl, ℕ, zero, suc, ◌<◌, ◌≤◌, Bool, true, false, List, [], ◌∷◌, length, map, slice_get, slice_index_or, Some, All}
 use Rattle.std.proofs.Common.{ap, sym, ◌∙◌, subst, arith}
 use Rattle.std.proofs.lemmas.Option.{get_or_from_slice_get, none-some, same_Some, slice_get-get_or, slice_get_within}

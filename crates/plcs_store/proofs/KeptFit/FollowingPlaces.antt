@@ -1,5 +1,5 @@
--- The places that follow what stands at a place: each is one where the run may go on, with the loops that are kept then.
--- Inside a For one loop more is kept, behind it one less; everything else keeps the loops around it.
+-- The places that follow what stands at a place: each is one where the run may go on, with the loops that are kept
+-- then. Inside a For one loop more is kept, behind it one less; everything else keeps the loops around it.
 use Rattle.std.specs.Prelude.{◌≡◌, refl, ℕ, zero, suc, ◌+◌, ◌≤◌, ◌==◌, ◌&&◌, ◌||◌, not, nat_lt, Bool, true, false, if◌then◌else◌, List, [], ◌∷◌, ◌++◌, slice_get, IsTrue, Option, Some, None, option_and_then, option_map}
 use Rattle.std.specs.Option.{option_or}
 use Rattle.std.proofs.Common.{ap, sym, ◌∙◌, subst, arith, append-nil, inr}
@@ -22,7 +22,8 @@ use Rattle.plcs_store.proofs.KeptFit.Outcomes.{WhenThere, there_map, there_then}
 use Rattle.plcs_store.proofs.KeptFit.Callees.{IsCallee, callee_called}
 use Rattle.plcs_store.proofs.KeptFit.GoingOn.{AreWithin, GoesOn, MayStand, SiteLaws, Sited, begin_goes_on, end_goes_on}
 
--- the places that follow a spot are right for a frame of the procedure that stands in the slot there and keeps these loops
+-- the places that follow a spot are right for a frame of the procedure that stands in the slot there and keeps these
+-- loops
 abbrev pub Follows : (program : Forest) → (procedure : ℕ) → (loops : List ℕ) → (slot : ℕ) → Spot → Type 0
 Follows program procedure loops slot (Spot.halts reason) = Unit {0}
 Follows program procedure loops slot (Spot.assigns target value next) = GoesOn program procedure loops next

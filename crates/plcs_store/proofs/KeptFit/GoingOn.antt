@@ -1,6 +1,6 @@
 -- Where a run goes on: a place of the procedure that it is in, in the loops that it keeps, where nothing waits.
--- Behind a statement stands the next one, or the place where what encloses it goes on; the induction on the nodes carries that
--- the place behind them is one where the run may go on in the loops around them.
+-- Behind a statement stands the next one, or the place where what encloses it goes on; the induction on the nodes
+-- carries that the place behind them is one where the run may go on in the loops around them.
 use Rattle.std.specs.Prelude.{◌≡◌, refl, ℕ, suc, ◌<◌, ◌≤◌, ◌==◌, ◌&&◌, ◌||◌, Bool, true, false, if◌then◌else◌, List, [], ◌∷◌, ◌++◌, length, slice_index_or, IsTrue, Option, Some, None}
 use Rattle.std.specs.Option.{option_or}
 use Rattle.std.proofs.Common.{ap, sym, ◌∙◌, subst, arith, append-nil, inl, inr}

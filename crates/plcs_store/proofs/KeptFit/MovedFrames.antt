@@ -1,5 +1,6 @@
--- Frames of which the newest stands elsewhere, calls another or is left: they fit where the place that follows is right.
--- No cell is set by this, and a new frame refers to lower frames alone, so that each reference finds what it did.
+-- Frames of which the newest stands elsewhere, calls another or is left: they fit where the place that follows is
+-- right. No cell is set by this, and a new frame refers to lower frames alone, so that each reference finds what it
+-- did.
 use Rattle.std.specs.Prelude.{◌≡◌, refl, ℕ, zero, suc, ◌+◌, ◌-◌, ◌<◌, ◌≤◌, Bool, true, false, List, [], ◌∷◌, ◌++◌, length, map, take, slice_get, Option, Some, None, option_map}
 use Rattle.std.proofs.Common.{ap, sym, ◌∙◌, subst, arith, inl, inr}
 use Rattle.std.proofs.lemmas.List.{length-append, length-take}

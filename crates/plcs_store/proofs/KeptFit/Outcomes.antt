@@ -1,6 +1,6 @@
 -- What holds of what a part of a step gives, if it gives something: each part hands on what holds to the one behind it.
--- What is stopped or undefined gives nothing, so nothing has to be shown of it. With these a step is followed part by part, as it
--- is defined.
+-- What is stopped or undefined gives nothing, so nothing has to be shown of it. With these a step is followed part by
+-- part, as it is defined.
 use Rattle.std.specs.Prelude.{◌≡◌, refl, ℤ, Bool, Option, Some, None, option_and_then, option_map}
 use Rattle.plcs_base.specs.declared.value.Value.{Value}
 use Rattle.plcs_store.specs.Operator.{on_bit, on_number}

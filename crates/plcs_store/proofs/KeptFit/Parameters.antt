@@ -1,6 +1,6 @@
 -- The variables of a frame that a call makes are those of the effective items of its procedure.
--- The parameters are effective scalars with different names, and the others are the items that none of them names; a parameter
--- holds a value of its kind, or a reference to a cell of its kind in a lower frame.
+-- The parameters are effective scalars with different names, and the others are the items that none of them names; a
+-- parameter holds a value of its kind, or a reference to a cell of its kind in a lower frame.
 use Rattle.std.specs.Prelude.{◌≡◌, refl, ℕ, zero, suc, ◌==◌, ◌||◌, not, Bool, true, false, cond, bytes_eq, if◌then◌else◌, List, [], ◌∷◌, ◌++◌, length, map, slice_get, Option, Some, None, is_some, option_and_then, option_map}
 use Rattle.std.specs.List.{AllByRecursion, IsDistinct, filter, list_all, list_any}
 use Rattle.std.specs.Map.{keys_of, lookup}
@@ -31,8 +31,8 @@ use Rattle.plcs_store.proofs.NewCells.{distinct_behind, item_names, no_names, or
 use Rattle.plcs_store.proofs.KeptFit.Arguments.{IsFinalArgument, IsFinal}
 use Rattle.plcs_store.proofs.KeptFit.Outcomes.{WhenThere, there_follow, there_then}
 
--- a variable under its name is a parameter: an effective scalar of the name, whose cell holds what is right in a frame above
--- these
+-- a variable under its name is a parameter: an effective scalar of the name, whose cell holds what is right in a frame
+-- above these
 pub record IsParameter (frames : List Frame) (items : List Declared) (entry : List ℕ × Variable) : Type 0 where
   pub item : Declared
   pub named : item_named entry.0 items ≡ Some item

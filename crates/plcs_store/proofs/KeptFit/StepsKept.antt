@@ -1,5 +1,6 @@
--- `steps_keep_fit`: what stands at the place of the newest frame names places where the run may go on. What the step does leaves
--- the loops of these places, values of their kinds and references to lower frames, so that the frames fit again.
+-- `steps_keep_fit`: what stands at the place of the newest frame names places where the run may go on. What the step
+-- does leaves the loops of these places, values of their kinds and references to lower frames, so that the frames fit
+-- again.
 use Rattle.std.specs.Prelude.{◌≡◌, refl, ℕ, suc, ℤ, ◌+◌, ◌-◌, ◌+ℤ◌, ◌<◌, ◌≤◌, nat_le, Bool, true, false, if◌then◌else◌, List, [], ◌∷◌, ◌++◌, drop, length, slice_get, Option, Some, None, option_and_then, option_map}
 use Rattle.std.specs.List.{AllByRecursion}
 use Rattle.std.proofs.Common.{ap, sym, ◌∙◌, subst, arith}

@@ -1,5 +1,6 @@
 -- A value stored in a cell keeps the fit: it is of the cell's kind, and names, types and sizes stay.
--- A variable is found under each name as before, perhaps with one cell of it set; what refers to that cell finds no reference there.
+-- A variable is found under each name as before, perhaps with one cell of it set; what refers to that cell finds no
+-- reference there.
 use Rattle.std.specs.Prelude.{◌≡◌, refl, ℕ, suc, ◌<◌, ◌≤◌, Bool, true, false, cond, bytes_eq, List, [], ◌∷◌, length, slice_get, slice_set, Option, Some, None, option_and_then, option_map, ◌⊎◌}
 use Rattle.std.specs.List.{IsDistinct}
 use Rattle.std.specs.Map.{lookup, set_value}

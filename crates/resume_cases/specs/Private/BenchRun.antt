@@ -60,8 +60,8 @@ pub record KeepsSuspended (old new : Suspended) : Type 0 where
   pub state : new.run.state ≡ old.run.state
   pub history : new.history ≡ old.history
 
--- a run of which nothing is kept fits the tree, and one of which something is kept fitted the tree before it was edited, and
--- has no history
+-- a run of which nothing is kept fits the tree, and one of which something is kept fitted the tree before it was
+-- edited, and has no history
 abbrev pub StandsBy : Option Kept → PlainTree → List Undo → PlainConfiguration → Type 0
 StandsBy None tree undos c = FitsUnedited tree undos c
 StandsBy (Some kept) tree undos c = FittedEarlier tree kept c × (undos ≡ [])

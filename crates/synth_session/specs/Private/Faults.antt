@@ -27,8 +27,8 @@ abbrev pub HasBecome : Edited → PlainTree → PlainStop → Type 0
 HasBecome (Edited.became tree stop taken what slot) after to = (tree ≡ after) × (stop ≡ to)
 HasBecome (Edited.refused fault) after to = ⊥
 
--- what is counted where an edit of the program comes to this: each phrase of the program after it is checked once at most, and each
--- instruction of its code emitted once at most
+-- what is counted where an edit of the program comes to this: each phrase of the program after it is checked once at
+-- most, and each instruction of its code emitted once at most
 abbrev pub CountsEdit : Edited → (before now : PlainCounts) → Type 0
 CountsEdit (Edited.became tree stop taken what slot) before now =
     CountsProgram (phrase_count tree) (code_length tree) before now

@@ -24,13 +24,14 @@ KeepsIfStands program (Some run) new = (keeping : Run) × (new ≡ Some keeping)
 
 -- ---- going on
 
--- what is asked of a run before it may be asked whether it goes on: where nothing is kept for it, it fits the program, and else
--- something is kept for each frame
+-- what is asked of a run before it may be asked whether it goes on: where nothing is kept for it, it fits the program,
+-- and else something is kept for each frame
 pub record CanBeAsked (program : Forest) (run : Run) : Type 0 where
   pub unkept : run.kept ≡ None → Fits program (plain_configuration run.state)
   pub kept : IfSome run.kept (HasEntries (plain_configuration run.state))
 
--- a run that goes on in the program stays where it is, if earlier configurations are held, since nothing was edited then
+-- a run that goes on in the program stays where it is, if earlier configurations are held, since nothing was edited
+-- then
 abbrev pub StaysIfHeld : (program : Forest) → List Undo → Run → Type 0
 StaysIfHeld program undos run =
     (undos ≡ []) ⊎ (resolved program (plain_configuration run.state) ≡ plain_configuration run.state)
@@ -70,12 +71,14 @@ WentBackIfStands steps undos_old undos_new (Some run) new =
 
 -- ---- one step
 
--- a run made a step, with these records before and now: nothing is kept for it any more, and the configuration before is held
+-- a run made a step, with these records before and now: nothing is kept for it any more, and the configuration before
+-- is held
 pub record MadeStep (undos_old undos_new : List Undo) (old new : Run) : Type 0 where
   pub dropped : new.kept ≡ None
   pub reason : new.reason ≡ old.reason
   pub earlier : configurations_before undos_new (plain_configuration new.state)
-      ≡ take most_records (plain_configuration old.state ∷ configurations_before undos_old (plain_configuration old.state))
+      ≡ take most_records
+      (plain_configuration old.state ∷ configurations_before undos_old (plain_configuration old.state))
 
 -- a step of a run was tried, which is answered so: it was made, or the run stands still for a reason and is as it was
 abbrev pub TriesStep : (undos_old undos_new : List Undo) → (old new : Run) → Option PlainStepAnswer → Option RunReason

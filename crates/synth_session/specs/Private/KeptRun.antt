@@ -8,9 +8,10 @@ use Rattle.synth_session.specs.SessionView.{CameToStand, plain_run}
 abbrev pub HasKeptRun : {W : Type 0} → Session W → Type 0
 HasKeptRun s = IfSome s.run.run (λ run. IsSome run.kept)
 
--- the session's run, if one stands, came to stand in a program of which its own came by edits, and keeps what is asked for when it
--- goes on, as after an edit, before its history is emptied
+-- the session's run, if one stands, came to stand in a program of which its own came by edits, and keeps what is asked
+-- for when it goes on, as after an edit, before its history is emptied
 abbrev pub HasForgottenRun : {W : Type 0} → Session W → Type 0
 HasForgottenRun s =
     IfSome s.run.run (λ run. IsSome run.kept)
-    × IfSome s.run.run (λ run. CameToStand (roomless_tree s.program.tree) (plain_run (roomless_tree s.program.tree).items s.run.undos run))
+    × IfSome s.run.run (λ run.
+    CameToStand (roomless_tree s.program.tree) (plain_run (roomless_tree s.program.tree).items s.run.undos run))

@@ -11,7 +11,8 @@ use Rattle.synth_session.specs.PlainSession.{PlainSession}
 use Rattle.synth_session.specs.Private.MemorylessKey.{HasOutcome}
 use Rattle.synth_session.specs.SessionView.{CountsOutcome, Does, plain_session}
 
--- to a key by which the run of this session, if one stands, is to go on, this can be replied; the files play no part in it
+-- to a key by which the run of this session, if one stands, is to go on, this can be replied; the files play no part in
+-- it
 abbrev pub CanReplyForRun : PlainSession → Reply → Type 0
 CanReplyForRun s reply = CanReply None (run_request s.tree s.run) reply
 

@@ -5,8 +5,8 @@ use Rattle.plcs_machine.specs.Fetched.{FetchesBy}
 use Rattle.synth_session.specs.PlainSession.{PlainSession}
 use Rattle.synth_session.specs.Tick.{AreDefined, AreMade, Steps, after_steps, all_steps, steps_left, with_more}
 
--- of the steps of a tick that shows none, so many are made by now, with what was fetched for them; what comes of the others is
--- what comes of all
+-- of the steps of a tick that shows none, so many are made by now, with what was fetched for them; what comes of the
+-- others is what comes of all
 pub record SoFar (steps : Steps) (first now : PlainSession) (counts_first counts_now : PlainCounts) : Type 0 where
   pub number : ℕ
   pub are_made : AreMade steps number first

@@ -1,6 +1,6 @@
--- The run begins with the session that the loads made, in which nothing was read or written yet, and the rescue begins where the run
--- stopped; so what was done in all is the loads, the run and the rescue, one after the other. Where memory ran out before a session
--- was opened, keys and screens are as they were.
+-- The run begins with the session that the loads made, in which nothing was read or written yet, and the rescue begins
+-- where the run stopped; so what was done in all is the loads, the run and the rescue, one after the other. Where
+-- memory ran out before a session was opened, keys and screens are as they were.
 use Rattle.std.proofs.Common.{inr}
 use Rattle.synth_session.specs.SessionView.{plain_session}
 use Rattle.synth_top.specs.Private.PlainForms.{plain_first_loads, plain_options}

@@ -11,7 +11,10 @@ option_rule name = record (new_rule name) { long = Some name }
 
 -- a command of clap with neither help nor version, whose first word is the first of its words
 abbrev pub bare_app : App
-bare_app = on_top (λ shape. record shape { no_binary_name = true; disable_help_flag = true; disable_version_flag = true }) (new_app (codes "synth"))
+bare_app =
+    on_top
+    (λ shape. record shape { no_binary_name = true; disable_help_flag = true; disable_version_flag = true })
+    (new_app (codes "synth"))
 
 -- the command as clap knows it: five options, and a word that stands by itself
 abbrev pub synth_app : App

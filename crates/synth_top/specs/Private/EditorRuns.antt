@@ -22,8 +22,8 @@ pub record IsUnshown {W : Type 0} (e : Editor W) : Type 0 where
       ≡ blank_grid (plain_session e.session).size.rows (plain_session e.session).size.cols
   pub reader : e.reader ≡ []
 
--- an editor whose first screen isn't shown yet, as a run from that screen on begins: it has the session of these options
--- and loads
+-- an editor whose first screen isn't shown yet, as a run from that screen on begins: it has the session of these
+-- options and loads
 pub record IsOpened {W : Type 0} (options : PlainOptions) (loads : PlainFirstLoads) (e : Editor W) : Type 0 where
   pub unshown : IsUnshown e
   pub session : plain_session e.session ≡ first_session options loads

@@ -139,7 +139,8 @@ pub record KeysCut (keys : List Key) (before now : Moment) : Type 0 where
   pub up_to : UpToLast before now earlier last count None
   pub going : ends (state_at before) (earlier ++ last ∷ []) ≡ false
 
--- between two moments of a run these keys were pressed up to one in whose turn a step of the program's run wanted memory
+-- between two moments of a run these keys were pressed up to one in whose turn a step of the program's run wanted
+-- memory
 pub record KeysStepWanted (keys : List Key) (before now : Moment) : Type 0 where
   pub earlier : List PressedKey
   pub last : PressedKey

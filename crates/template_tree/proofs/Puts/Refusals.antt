@@ -34,8 +34,8 @@ refused_by TreeFault.SlotsUsedUp edit there Here before node at here over =
 refused_by TreeFault.OutOfMemory edit there Here before node at here over =
     at_there there (λ n. Here n × IsOverTreeLimit TreeFault.OutOfMemory (tree_after edit before n.label.slot)) node at (here, over)
 
--- what was asked of a node before it comes to the end of a path of this length: whether it is shallow enough, and how many
--- slots it brings, as far as that is counted
+-- what was asked of a node before it comes to the end of a path of this length: whether it is shallow enough, and how
+-- many slots it brings, as far as that is counted
 pub record Asked (path : ℕ) (node : PlainNode) (shallow : Bool) (slots : ℕ) : Type 0 where
   pub short : shallow ≡ true → path + depth node.inner ≤ deepest_path
   pub deep : shallow ≡ false → deepest_path < path + depth node.inner

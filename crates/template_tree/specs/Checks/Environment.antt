@@ -56,7 +56,8 @@ template_type Template.Comment parts = None
 template_type Template.Proc parts = None
 template_type Template.ProcP parts = None
 
--- the type that a node of the kind gives to the names that it declares, if it gives one: what is no declaration gives none
+-- the type that a node of the kind gives to the names that it declares, if it gives one: what is no declaration gives
+-- none
 abbrev pub type_given : NodeKind → List (Option PlainPhrase) → Option ItemType
 type_given NodeKind.DeclarationHole parts = None
 type_given NodeKind.StatementHole parts = None

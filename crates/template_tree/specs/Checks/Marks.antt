@@ -1,5 +1,5 @@
--- The verdict of each phrase of a program, and its marks: the phrases with an offence, and the kind of each one's first.
--- Elision plays no part.
+-- The verdict of each phrase of a program, and its marks: the phrases with an offence, and the kind of each one's
+-- first. Elision plays no part.
 use Rattle.std.specs.Prelude.{ℕ, ◌+◌, ◌==◌, Bool, if◌then◌else◌, List, [], ◌∷◌, ◌++◌, Option, Some, None, is_some, option_map}
 use Rattle.std.specs.FinMap.{FinMap, entries, from_entries, get}
 use Rattle.std.specs.List.{filter_map}

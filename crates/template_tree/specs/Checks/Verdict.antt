@@ -153,7 +153,8 @@ abbrev pub parameter_offence : List Declared → (all : List (List ℕ)) → Lis
 parameter_offence items all name =
     if is_builtin_name name then Some MarkKind.Reserved
     else (if nat_lt 1 (count_by (bytes_eq name) all) then Some MarkKind.Duplicate
-    else (if is_some (option_and_then scalar_kind (item_named name items)) then None else Some MarkKind.ParameterUndeclared))
+    else (if is_some (option_and_then scalar_kind (item_named name items)) then None
+    else Some MarkKind.ParameterUndeclared))
 
 -- the first offence of a list of parameters
 abbrev pub parameters_offence : List Declared → (all : List (List ℕ)) → List (List ℕ) → Option MarkKind

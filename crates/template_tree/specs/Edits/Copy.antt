@@ -13,8 +13,8 @@ whole_node node = record { label = record node.label { elided = false }; inner =
 abbrev pub IsCopy : PlainNode → PlainNode → Type 0
 IsCopy node copy = roomless_node copy ≡ roomless_node (whole_node node)
 
--- a copy of the node that stands there, if one does, is refused for this: it is main or a hole, or none stands there; or
--- memory ran out
+-- a copy of the node that stands there, if one does, is refused for this: it is main or a hole, or none stands there;
+-- or memory ran out
 abbrev pub CopyRefused : Option PlainNode → TreeFault → Type 0
 CopyRefused there TreeFault.NotHere = IsSomeAnd there MayTake → ⊥
 CopyRefused there TreeFault.OutOfMemory = IsSomeAnd there MayTake

@@ -48,7 +48,8 @@ whole (Forest.cons label inner rest) = Forest.cons (record label { elided = fals
 -- order, and nothing in the node is elided
 abbrev pub node_in_slot : ℕ → ℕ → PlainNode → PlainNode
 node_in_slot slot next node =
-    record { label = record node.label { slot = slot; elided = false }; inner = with_slots_from next (whole node.inner) }
+    record
+    { label = record node.label { slot = slot; elided = false }; inner = with_slots_from next (whole node.inner) }
 
 -- what an item of a tree gives way to in the edit that adds a hole: the item, with a hole of its sort, in the slot, on
 -- this side of it

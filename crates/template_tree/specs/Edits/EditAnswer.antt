@@ -57,8 +57,8 @@ IsOverTreeLimit TreeFault.SlotsUsedUp tree =
     (depth tree.items ≤ deepest_path) × (tree.live ≤ most_slots) × (most_drawn_slots < tree.drawn)
 IsOverTreeLimit TreeFault.OutOfMemory tree = IsWithin tree
 
--- an edit is refused at a node, if there is one, of which this has to hold: it doesn't, or the tree after the edit would be
--- over a limit
+-- an edit is refused at a node, if there is one, of which this has to hold: it doesn't, or the tree after the edit
+-- would be over a limit
 abbrev pub Refuses : TreeEdit → Option PlainNode → (PlainNode → Type 0) → PlainTree → TreeFault → Type 0
 Refuses edit there Here before TreeFault.NotHere = IsSomeAnd there Here → ⊥
 Refuses edit there Here before fault =

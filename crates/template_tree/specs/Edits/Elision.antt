@@ -40,7 +40,8 @@ hidden_after_toggle node = if is_comment node.label.kind then Some (not node.lab
 -- a comment turned, from shown to hidden or back, or another node as it is
 abbrev pub toggled : PlainNode → List PlainNode
 toggled node =
-    (if is_comment node.label.kind then record node { label = record node.label { elided = not node.label.elided } } else node) ∷ []
+    (if is_comment node.label.kind
+    then record node { label = record node.label { elided = not node.label.elided } } else node) ∷ []
 
 -- the tree with the comment at the path turned
 abbrev pub with_toggled_at : List ℕ → PlainTree → PlainTree

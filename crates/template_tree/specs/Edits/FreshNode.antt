@@ -18,7 +18,8 @@ abbrev pub fresh_node : NodeKind → PlainNode
 fresh_node kind =
     record {
       label =
-          record { slot = 0; kind = kind; parts = map (λ _. None) (parts_of (row_of kind).line); elided = false; spare = 0 };
+          record
+          { slot = 0; kind = kind; parts = map (λ _. None) (parts_of (row_of kind).line); elided = false; spare = 0 };
       inner = section_holes (row_of kind).sections;
     }
 

@@ -1,5 +1,5 @@
--- The laws of checking: what a program declares and mentions, and the verdicts of its phrases, don't depend on the room of its
--- lists, nor on which comments are elided.
+-- The laws of checking: what a program declares and mentions, and the verdicts of its phrases, don't depend on the room
+-- of its lists, nor on which comments are elided.
 use Rattle.std.specs.Prelude.{◌≡◌, ℕ, List}
 use Rattle.template_tree.specs.Edits.Edit.{edit_at}
 use Rattle.template_tree.specs.Edits.Elision.{toggled}
@@ -8,8 +8,8 @@ use Rattle.template_tree.specs.Checks.Marks.{Verdicts, procedure_verdicts}
 use Rattle.template_tree.specs.Checks.Mention.{mentions}
 use Rattle.template_tree.specs.Programs.PlainTree.{Forest, roomless}
 
--- two programs declare the same, mention the same names at the same places, and have the same verdicts, in listing order and
--- by place
+-- two programs declare the same, mention the same names at the same places, and have the same verdicts, in listing
+-- order and by place
 pub record CheckAlike (one other : Forest) : Type 0 where
   pub items : (slot : ℕ) → Items one slot ≡ Items other slot
   pub headings : (name : List ℕ) → Sig one name ≡ Sig other name

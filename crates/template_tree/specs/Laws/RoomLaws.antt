@@ -1,5 +1,5 @@
--- The laws of room: what a tree is, what stands at a path, what is shown of it, and what edits make of it don't depend on the
--- room of its lists.
+-- The laws of room: what a tree is, what stands at a path, what is shown of it, and what edits make of it don't depend
+-- on the room of its lists.
 use Rattle.std.specs.Prelude.{◌≡◌, ◌↔◌, ℕ, List, option_and_then, option_map}
 use Rattle.template_tree.specs.declared.change.Change.{Change}
 use Rattle.template_tree.specs.Edits.Edit.{Differs}
@@ -72,8 +72,8 @@ HidingIgnoresRoom =
 abbrev pub DepthsIgnoreRoom : Type 0
 DepthsIgnoreRoom = (items : Forest) → depth (roomless items) ≡ depth items
 
--- an edit at the node in a slot, and another one there of the tree without room, make the same tree but for room, and do
--- the same in the same slot
+-- an edit at the node in a slot, and another one there of the tree without room, make the same tree but for room, and
+-- do the same in the same slot
 pub record IsSameAfter (one other : TreeEdit) (before : PlainTree) (slot : ℕ) : Type 0 where
   pub tree : roomless_tree (tree_after one before slot) ≡ roomless_tree (tree_after other (roomless_tree before) slot)
   pub what : what_of one ≡ what_of other

@@ -37,8 +37,8 @@ PartKeepsTree =
     → Takes (part_category node.label.kind part) place → IsPhrasePlace place
     → IsTree (Part tree node.label.slot part place) × ((Part tree node.label.slot part place).live ≡ tree.live)
 
--- a tree is one where a node of the same sort comes into a slot, as far as the limits allow it; the inner nodes that come
--- are counted in place of those that go
+-- a tree is one where a node of the same sort comes into a slot, as far as the limits allow it; the inner nodes that
+-- come are counted in place of those that go
 abbrev pub PutKeepsTree : Type 0
 PutKeepsTree =
     (tree : PlainTree) (path : List ℕ) (node new : PlainNode)
@@ -69,8 +69,8 @@ DropKeepsTree =
     → IsTree (Drop tree node.label.slot)
     × ((Drop tree node.label.slot).live + 1 ≡ tree.live)
 
--- an edit can be undone in each tree that is, without the room of lists, the one after it, where a list has the room that
--- it takes
+-- an edit can be undone in each tree that is, without the room of lists, the one after it, where a list has the room
+-- that it takes
 abbrev pub UndoStaysPossible : Type 0
 UndoStaysPossible =
     (receipt : PlainReceipt) (back : Option PlainNode) (one other : PlainTree)

@@ -39,7 +39,8 @@ template_end Template.Comment = None
 template_end Template.Proc = Some 1
 template_end Template.ProcP = Some 1
 
--- where a run goes on once what stands inside a node of the kind is done, if not where it goes on behind the node itself
+-- where a run goes on once what stands inside a node of the kind is done, if not where it goes on behind the node
+-- itself
 abbrev pub inner_end : NodeKind → Option ℕ
 inner_end NodeKind.DeclarationHole = None
 inner_end NodeKind.StatementHole = None
@@ -115,7 +116,8 @@ site_among slot turn (Forest.cons label inner rest) behind =
     if label.slot == slot
     then Some record { label = label; inner = inner; after = after }
     else
-    option_or (site_among slot (in_turn (row_of label.kind).sections) inner (end_at label.slot (inner_end label.kind) after))
+    option_or
+    (site_among slot (in_turn (row_of label.kind).sections) inner (end_at label.slot (inner_end label.kind) after))
     (site_among slot turn rest behind)
 
 -- the site of a slot in a program; procedures are not done in turn, and nothing is done behind main

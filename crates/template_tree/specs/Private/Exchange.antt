@@ -15,8 +15,8 @@ abbrev pub first_item : Forest → List ℕ → Option PlainNode
 first_item items [] = None
 first_item items (k ∷ path) = slice_get (nodes items) k
 
--- a node may come in place of the one that is there: it is a part of a program, of the same sort, and the tree keeps its
--- limits
+-- a node may come in place of the one that is there: it is a part of a program, of the same sort, and the tree keeps
+-- its limits
 pub record MayReplace (tree : PlainTree) (node there : PlainNode) : Type 0 where
   pub subtree : IsSubtree node
   pub sort : sort_of node.label.kind ≡ sort_of there.label.kind

@@ -10,7 +10,12 @@ abbrev pub seen : Inside → PlainNode
 seen a =
     record {
       label =
-          record
-          { slot = a.slot.0; kind = a.kind; parts = map plain_phrase_place a.parts.items; elided = a.elided; spare = a.inner.spare };
+          record {
+            slot = a.slot.0;
+            kind = a.kind;
+            parts = map plain_phrase_place a.parts.items;
+            elided = a.elided;
+            spare = a.inner.spare;
+          };
       inner = forest a.inner.items;
     }

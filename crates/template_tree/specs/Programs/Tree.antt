@@ -5,8 +5,8 @@ use Rattle.template_tree.specs.Programs.PlainTree.{PlainTree}
 use Rattle.template_tree.specs.Programs.Program.{IsProgram}
 use Rattle.template_tree.specs.Programs.Slots.{count, depth, first_slot, times, AllBelow}
 
--- a tree: a program within the limits whose slots were drawn, main's first, and each but once; how many are live is kept
--- with it
+-- a tree: a program within the limits whose slots were drawn, main's first, and each but once; how many are live is
+-- kept with it
 pub record IsTree (tree : PlainTree) : Type 0 where
   pub program : IsProgram tree.items
   pub shallow : depth tree.items ≤ deepest_path

@@ -8,8 +8,8 @@ use Rattle.terminal_keys.specs.declared.ending.Ending.TheVariants.{Done, ReadFau
 use Rattle.terminal_keys.specs.PassedKeys.{Streams}
 use Rattle.terminal_keys.specs.Sequence.{bell, of_sequences, passed_of_sequence}
 
--- what these bytes give behind a begun sequence, whatever comes behind them, is this and then what comes behind the sequence
--- that has begun now
+-- what these bytes give behind a begun sequence, whatever comes behind them, is this and then what comes behind the
+-- sequence that has begun now
 abbrev pub GivesBehind : (given : List ℕ → List ℕ) → (begun bytes gives now : List ℕ) → Type 0
 GivesBehind given begun bytes gives now = (rest : List ℕ) →
     of_sequences given begun (bytes ++ rest) ≡ gives ++ of_sequences given now rest

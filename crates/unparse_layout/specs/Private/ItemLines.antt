@@ -35,7 +35,11 @@ lines_before items k [] =
     + unwrap_or (option_map (λ item. one_if item.bone.led) (slice_get (node_layouts items) k)) 0
 lines_before items k (next ∷ rest) =
     sum (take k (map height (node_layouts items)))
-    + unwrap_or (option_map (λ item. one_if item.bone.led + 1 + lines_before item.inner next rest) (slice_get (node_layouts items) k)) 0
+    + unwrap_or
+    (option_map
+    (λ item. one_if item.bone.led + 1 + lines_before item.inner next rest)
+    (slice_get (node_layouts items) k))
+    0
 
 -- the line of the screen that stands before those of one node, that of this number, if there is one, where these
 -- sections are left for the nodes

@@ -12,6 +12,7 @@ with_elision [] elided node_layout = record node_layout { bone = record node_lay
 with_elision (k ∷ path) elided node_layout =
     unwrap_or
     (option_map
-    (λ item. record node_layout { inner = bones (slice_set (node_layouts node_layout.inner) k (with_elision path elided item)) })
+    (λ item.
+    record node_layout { inner = bones (slice_set (node_layouts node_layout.inner) k (with_elision path elided item)) })
     (slice_get (node_layouts node_layout.inner) k))
     node_layout

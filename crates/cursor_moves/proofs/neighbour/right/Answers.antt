@@ -1,5 +1,5 @@
--- The next stop is the next part of the cursor's node, or else the next node itself: so the visible stops are listed, of the tree
--- without room as of that with it. Both are visible, since the node is, and the part is one that is a stop.
+-- The next stop is the next part of the cursor's node, or else the next node itself: so the visible stops are listed,
+-- of the tree without room as of that with it. Both are visible, since the node is, and the part is one that is a stop.
 use Rattle.std.specs.Prelude.{Some, None, Option, ℕ}
 use Rattle.std.proofs.Common.{ap, sym, ◌∙◌, subst}
 use Rattle.template_tree.specs.Positions.Stop.{MayStand, part_stops, plain_stop}

@@ -1,5 +1,6 @@
--- Main and then each procedure is laid: with those that are left, what is laid and noted so far is what will be in the end. What was
--- counted so far is the code of those that are laid, so that where a step breaks off no more than the whole was counted.
+-- Main and then each procedure is laid: with those that are left, what is laid and noted so far is what will be in the
+-- end. What was counted so far is the code of those that are laid, so that where a step breaks off no more than the
+-- whole was counted.
 use Rattle.std.proofs.Common.{◌≡◌, ◌∙◌, ◌+◌, ◌≤◌, ◌++◌, ◌∷◌, [], ℕ, List, Some, drop, length, slice_get, refl, sym, ap, subst, arith}
 use Rattle.std.proofs.lemmas.List.{append-nil}
 use Rattle.std.proofs.lemmas.Option.{slice_get_within}

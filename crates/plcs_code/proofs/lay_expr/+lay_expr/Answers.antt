@@ -1,5 +1,5 @@
--- The code of an expression is that of its operands from left to right and then one instruction, and so it is laid: what the
--- calls for the operands lay, one behind the other, and what is put behind that.
+-- The code of an expression is that of its operands from left to right and then one instruction, and so it is laid:
+-- what the calls for the operands lay, one behind the other, and what is put behind that.
 use Rattle.std.proofs.Common.{◌≡◌, [], ◌∷◌, length, sym, ap, ◌∙◌, rules}
 use Rattle.std.proofs.lemmas.Int.{to_z-of_z}
 use mir.Syntax.{w32}

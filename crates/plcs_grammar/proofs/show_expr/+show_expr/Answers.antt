@@ -1,5 +1,5 @@
--- Each case puts, piece by piece, what the canonical text of its plain form has; putting x and then y is putting both. A chain is
--- put by halves: the text of its first operators and then of the others is that of all.
+-- Each case puts, piece by piece, what the canonical text of its plain form has; putting x and then y is putting both.
+-- A chain is put by halves: the text of its first operators and then of the others is that of all.
 use Rattle.std.proofs.Common.{◌+◌, ◌-◌, ◌/◌, ◌<◌, ◌≡◌, length, take, sym, ap, ◌∙◌, arith}
 use Rattle.std.proofs.Math.Seq.{take-length}
 use Rattle.plcs_base.specs.Put.{puts_nothing, puts_next}

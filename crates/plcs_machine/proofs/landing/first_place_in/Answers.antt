@@ -1,5 +1,5 @@
--- What is left at an address makes the same frame as the whole way: a place ends it, a jump leads on, a parameter takes the next
--- argument, cells are made, and nothing else comes. So it is for all frames for which a parameter may stand.
+-- What is left at an address makes the same frame as the whole way: a place ends it, a jump leads on, a parameter takes
+-- the next argument, cells are made, and nothing else comes. So it is for all frames for which a parameter may stand.
 use Rattle.std.proofs.Common.{ℕ, ℤ, ◌+◌, ◌-◌, ◌<◌, ◌≡◌, ◌∙◌, ◌++◌, ◌∷◌, [], List, refl, sym, ap, arith, rules, subst}
 use Rattle.std.proofs.Math.Bool.{false≢true}
 use Rattle.std.proofs.lemmas.Int.{to_z-of_z}

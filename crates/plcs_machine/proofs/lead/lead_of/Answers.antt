@@ -1,4 +1,5 @@
--- The table tests whether a call has its arguments; what is called is found by the name alone. A loop is entered by numbers that fit.
+-- The table tests whether a call has its arguments; what is called is found by the name alone. A loop is entered by
+-- numbers that fit.
 use Rattle.std.proofs.Common.{◌≡◌, ◌∙◌, [], ℤ, rules, sym, ap, subst}
 use Rattle.std.proofs.lemmas.Int.{to_z-of_z}
 use mir.Syntax.{w32}

@@ -1,5 +1,5 @@
--- Each instruction is told by what was fetched. What is left at an address, with the cells so far, begins the run that begins at
--- the first one: so a place ends it, a cell leads on, and nothing else comes.
+-- Each instruction is told by what was fetched. What is left at an address, with the cells so far, begins the run that
+-- begins at the first one: so a place ends it, a cell leads on, and nothing else comes.
 use Rattle.std.proofs.Common.{ℕ, ◌+◌, ◌≡◌, ◌∙◌, ◌++◌, ◌∷◌, [], List, refl, sym, ap, arith}
 use Rattle.std.proofs.Math.Bool.{false≢true}
 use Rattle.std.specs.Prelude.{Option, Some, drop, is_some, option_map, slice_get}

@@ -1,5 +1,5 @@
--- Each byte is told by its call, so the order of the bytes is the first part of the order of what is left: it counts unless they
--- are equal, and then what is behind them counts.
+-- Each byte is told by its call, so the order of the bytes is the first part of the order of what is left: it counts
+-- unless they are equal, and then what is behind them counts.
 use Rattle.std.proofs.Common.{ℕ, ◌≡◌, ◌∙◌, List, get_or, sym, ap, arith}
 use Rattle.std.specs.Ordering.{nat_cmp}
 use Rattle.std.specs.declared.cmp.Ordering.{Ordering}

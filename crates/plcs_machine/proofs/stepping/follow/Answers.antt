@@ -1,4 +1,5 @@
--- What an instruction leads to is done behind it, and that is the whole step: each arm is the answer at what the instruction led to.
+-- What an instruction leads to is done behind it, and that is the whole step: each arm is the answer at what the
+-- instruction led to.
 use Rattle.std.proofs.Common.{ℕ, ◌≡◌, ◌∙◌, List, refl, sym, ap, arith, subst}
 use Rattle.std.proofs.Math.Bool.{false≢true}
 use Rattle.std.specs.Prelude.{[], None, IsSome, IfOk, OnErr, OnOk}

@@ -1,4 +1,5 @@
--- What is written is the whole step: it stops where that is too long, and else goes on where only jumps come before the next place.
+-- What is written is the whole step: it stops where that is too long, and else goes on where only jumps come before the
+-- next place.
 use Rattle.std.proofs.Common.{ℕ, ◌<◌, ◌≡◌, ◌∙◌, List, refl, sym, ap, subst}
 use Rattle.std.specs.Prelude.{Bool, Option, IsSome, length}
 use Rattle.plcs_store.specs.declared.frame.Frame.{Frame}

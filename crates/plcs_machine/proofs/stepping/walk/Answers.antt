@@ -1,5 +1,5 @@
--- What is left of the step at an address is what the whole step comes to. Each instruction leads where the table says: on to the
--- next, where that is so again, or to what ends the walk.
+-- What is left of the step at an address is what the whole step comes to. Each instruction leads where the table says:
+-- on to the next, where that is so again, or to what ends the walk.
 use Rattle.std.proofs.Common.{ℕ, ◌+◌, ◌-◌, ◌<◌, ◌≡◌, ◌∙◌, [], List, zero, suc, refl, sym, ap, arith, subst}
 use Rattle.std.proofs.Math.Bool.{false≢true}
 use Rattle.std.specs.FinMap.{get}

@@ -1,5 +1,5 @@
--- After each turn the lines so far, with those of the nodes that are left for the sections left, are all lines; so at the end they
--- are all of them. They are counted in 32 bits, since no node has more than three.
+-- After each turn the lines so far, with those of the nodes that are left for the sections left, are all lines; so at
+-- the end they are all of them. They are counted in 32 bits, since no node has more than three.
 use Rattle.std.proofs.Common.{◌≡◌, ◌+◌, arith, ap, sym, ◌∙◌}
 use Rattle.std.proofs.lemmas.Option.{slice_get_within}
 use Rattle.plcs_grammar.specs.Template.{PlainRow, row_of}

@@ -1,5 +1,5 @@
--- After each turn the place isn't in the items before the next one, whose lines were passed; so where it is in the next one, it is
--- behind those lines. They are counted in 32 bits, since no node has more than three.
+-- After each turn the place isn't in the items before the next one, whose lines were passed; so where it is in the next
+-- one, it is behind those lines. They are counted in 32 bits, since no node has more than three.
 use Rattle.std.proofs.Common.{◌≡◌, ◌+◌, ◌<◌, Some, arith, ap, sym, ◌∙◌, subst}
 use Rattle.std.specs.Prelude.{false, length, slice_get}
 use Rattle.std.proofs.lemmas.Option.{slice_get_within}

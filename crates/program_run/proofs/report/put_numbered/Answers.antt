@@ -1,4 +1,5 @@
--- The bytes before the number, the number, the bytes behind it and the line are put in turn, each behind those before it.
+-- The bytes before the number, the number, the bytes behind it and the line are put in turn, each behind those before
+-- it.
 use Rattle.std.proofs.Common.{◌++◌, codes, subst, ap, ◌∙◌}
 use Rattle.std.specs.Prelude.{ℕ, List, decimal}
 use Rattle.plcs_base.specs.Put.{PutsAll}

@@ -9,6 +9,9 @@ use Rattle.program_run.specs.Private.SteppedRun.{RunStands}
 use Rattle.program_run.proofs.SteppedRuns.{calls_in_step, has_step, stands_after, stands_kept, steps_as_tree}
 use Rattle.program_run.proofs.running.make_step.Goals as goal
 
+-- A step of the machine on the program's code is a step of its tree: so what the machine answers, changes and counts is
+-- what the tree's step says, and where it breaks off for want of memory the run stands as it did.
+
 pub step-requires-clause-defined : goal.step-requires-clause-defined
 step-requires-clause-defined g c =
     has_step c.args.tree.now c.args.code.now c.args.input.now (plain_configuration c.args.state.now) c.code_steps_as_tree.ensures.defined c.requires.tree

@@ -7,6 +7,9 @@ use Rattle.synth_session.specs.ProgramCode.{instrs_in}
 use Rattle.synth_session.proofs.NodeCodes.{no_code, span_code, span_long, spanless_code}
 use Rattle.synth_session.proofs.code_command.code_span.Goals as goal
 
+-- The span of a slot holds the code of the node there: so its instructions are the node's own, and they are as many as
+-- the span says. Where no node stands at the stop, or none that has a span, there are none.
+
 pub returns-in_default-clause-span : goal.returns-in_default-clause-span
 returns-in_default-clause-span g c =
     no_code c.room_is_not_shown.ensures.nodes c.args.program.now.tree (plain_stop c.args.stop.now) (rw c.in_default.is at c.node.ensures.found)

@@ -1,5 +1,6 @@
--- A node's lines are its head line, those inside it and its last one, put one after the other; the loop has put the lines of the
--- nodes before, by the sections that are left for the others. Both get smaller by the node that they go into.
+-- A node's lines are its head line, those inside it and its last one, put one after the other; the loop has put the
+-- lines of the nodes before, by the sections that are left for the others. Both get smaller by the node that they go
+-- into.
 use Rattle.std.proofs.Common.{rules, ◌≡◌, ◌+◌, ◌<◌, ◌∙◌, sym, ap, arith, false, length, map, option_map}
 use Rattle.plcs_base.specs.Put.{puts_nothing, puts_next}
 use Rattle.plcs_base.specs.Putting.{puts_append, puts_same}

@@ -1,5 +1,5 @@
--- What the nodes from number k on declare before the slot has such an item exactly where all of them have: each node that is
--- passed by has none, and isn't in the slot. So the first node that decides, or the end, decides for all.
+-- What the nodes from number k on declare before the slot has such an item exactly where all of them have: each node
+-- that is passed by has none, and isn't in the slot. So the first node that decides, or the end, decides for all.
 use Rattle.std.proofs.Common.{◌≡◌, ◌∙◌, ◌+◌, drop, sym, ap, arith}
 use Rattle.std.proofs.lemmas.Option.{slice_get_within}
 use Rattle.template_tree.specs.Programs.PlainTree.{Forest, forest, forest_nodes, nodes}

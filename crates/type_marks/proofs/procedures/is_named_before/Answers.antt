@@ -1,5 +1,5 @@
--- Among the procedures from number k on, before the slot, one has the name exactly where one of all has: each that is passed
--- by hasn't, and isn't in the slot. So the first that decides, or the end, decides for all.
+-- Among the procedures from number k on, before the slot, one has the name exactly where one of all has: each that is
+-- passed by hasn't, and isn't in the slot. So the first that decides, or the end, decides for all.
 use Rattle.std.proofs.Common.{◌≡◌, ◌∙◌, ◌+◌, drop, sym, ap, arith}
 use Rattle.std.proofs.lemmas.Option.{slice_get_within}
 use Rattle.std.specs.Prelude.{is_some}

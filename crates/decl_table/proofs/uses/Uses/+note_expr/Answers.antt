@@ -1,5 +1,5 @@
--- With the names in the rest of the chain, those noted so far are the names of the whole expression; an operator's right
--- operand moves from the rest to what is noted. So at the end of the chain, whatever stands there, all are noted.
+-- With the names in the rest of the chain, those noted so far are the names of the whole expression; an operator's
+-- right operand moves from the rest to what is noted. So at the end of the chain, whatever stands there, all are noted.
 use Rattle.std.proofs.Common.{◌∙◌, ◌+◌, ◌≤◌, [], ◌∷◌, drop, sym, ap, subst, refl, arith, rules}
 use Rattle.plcs_grammar.specs.declared.expr.Expr.{size-Expr}
 use Rattle.plcs_grammar.specs.declared.expr.Expr.TheVariants.{Infix}

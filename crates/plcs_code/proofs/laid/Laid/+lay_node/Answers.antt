@@ -1,6 +1,6 @@
--- A node is laid in four steps, each of which puts some code behind what is there; where one breaks off, what was counted is no
--- more than the code of the steps before it and its own. The nodes inside are laid in turn: with those that are left, what is there
--- is what will be there in the end.
+-- A node is laid in four steps, each of which puts some code behind what is there; where one breaks off, what was
+-- counted is no more than the code of the steps before it and its own. The nodes inside are laid in turn: with those
+-- that are left, what is there is what will be there in the end.
 use Rattle.std.proofs.Common.{◌≡◌, ◌+◌, ◌≤◌, ◌++◌, ◌∷◌, [], List, Option, Some, drop, length, slice_get, refl, sym, ap, subst, ◌∙◌, arith}
 use Rattle.std.specs.Option.{option_to_list}
 use Rattle.std.specs.Prelude.{option_map, sum}

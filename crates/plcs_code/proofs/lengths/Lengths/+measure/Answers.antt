@@ -9,6 +9,9 @@ use Rattle.plcs_code.proofs.LaidNodes.{first_others}
 use Rattle.plcs_code.proofs.ReadParts.{past_where_none}
 use Rattle.plcs_code.proofs.lengths.Lengths.+measure.Goals as goal
 
+-- The nodes inside are measured from the last to the first: with those that are left in front, the lengths of the first
+-- and of the others, and the list of all, are those of the nodes from the index on. At the index 0 that is all of them.
+
 pub children-k-requires : goal.children-k-requires
 children-k-requires g t c = omega (arith, c.items_are_nodes.ensures.few c.args.node.now.inner, c.requires.few)
 

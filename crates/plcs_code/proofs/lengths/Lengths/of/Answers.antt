@@ -11,6 +11,9 @@ use Rattle.plcs_code.proofs.CountedLengths.{listed_left, sum_left}
 use Rattle.plcs_code.proofs.ReadParts.{past_where_none}
 use Rattle.plcs_code.proofs.lengths.Lengths.of.Goals as goal
 
+-- The program's items are measured from the last to the first: the list and the sum are those of the items from the
+-- index on, and at the index 0 of the whole program. The sum breaks off where it passes the most that code may have.
+
 pub overflow_add-k : goal.overflow_add-k
 overflow_add-k g c =
     omega (arith, c.procedures-k.ensures, c.items_are_nodes.ensures.few c.args.tree.now.items, c.requires.tree.few)

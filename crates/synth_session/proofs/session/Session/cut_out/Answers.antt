@@ -1,5 +1,5 @@
--- What stands at the cursor is there, so a key whose edit is made counts what the edit does; where it is refused the program is the
--- same but for room, so that the session is seen as before and keeps its conditions.
+-- What stands at the cursor is there, so a key whose edit is made counts what the edit does; where it is refused the
+-- program is the same but for room, so that the session is seen as before and keeps its conditions.
 use Rattle.std.proofs.Common.{◌≡◌, refl, ap, subst, ◌∙◌}
 use Rattle.template_tree.specs.Programs.PlainTree.{roomless_tree}
 use Rattle.clip_store.specs.PlainClips.{kept_pairs}

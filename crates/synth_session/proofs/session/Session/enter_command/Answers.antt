@@ -10,6 +10,9 @@ use Rattle.synth_session.proofs.ResumedRuns.{resumed_counts}
 use Rattle.synth_session.proofs.UnaskedKeys.{by_reading, nothing_files, run_files}
 use Rattle.synth_session.proofs.session.Session.enter_command.Goals as goal
 
+-- What a line is read as decides: each command that may touch the run does what its own call says by that reading, and
+-- asks nothing of files but what its request names; every other asks nothing, so the files stay as they are.
+
 pub returns-in-Ok-Step : goal.returns-in-Ok-Step
 returns-in-Ok-Step g c =
     let s = plain_session c.args.self.now in

@@ -1,6 +1,6 @@
--- Why this holds: what is asked of the run is kept for it by the conditions of the session, and by the laws of resumption where it
--- may go on it fits the program at the place to which it is resolved; where nothing was kept nothing was edited, and it may. What is
--- said over the tree with room holds without it.
+-- Why this holds: what is asked of the run is kept for it by the conditions of the session, and by the laws of
+-- resumption where it may go on it fits the program at the place to which it is resolved; where nothing was kept
+-- nothing was edited, and it may. What is said over the tree with room holds without it.
 use Rattle.std.proofs.Common.{Some, None}
 use Rattle.template_tree.specs.Programs.PlainTree.{roomless_tree}
 use Rattle.synth_session.specs.KeyOutcome.{KeyOutcome}

@@ -1,6 +1,6 @@
--- The steps are made one after the other, and what comes of those that are left is what comes of all: while steps may be made each
--- that is made goes on to the others, one that isn't ends them, and memory that runs out leaves those before it. Where none may be made
--- more the run is paused.
+-- The steps are made one after the other, and what comes of those that are left is what comes of all: while steps may
+-- be made each that is made goes on to the others, one that isn't ends them, and memory that runs out leaves those
+-- before it. Where none may be made more the run is paused.
 use Rattle.std.proofs.Common.{Option, refl, ◌∙◌, subst}
 use Rattle.plcs_store.specs.declared.reason.RunReason.{RunReason}
 use Rattle.synth_session.specs.Private.TickDone.{HasTried}

@@ -1,5 +1,5 @@
--- The run that is held tries its step by the code and the input of the session, and the session tries the same one: where it was made
--- the run is the next one, and fits the program if it did before, and else it is as it was.
+-- The run that is held tries its step by the code and the input of the session, and the session tries the same one:
+-- where it was made the run is the next one, and fits the program if it did before, and else it is as it was.
 use Rattle.std.proofs.Common.{ℕ, None, Some, arith}
 use Rattle.template_tree.specs.Programs.PlainTree.{roomless_tree}
 use Rattle.plcs_machine.specs.Exec.{Exec}

@@ -1,6 +1,7 @@
--- Each turn of the loop makes a tick by the code that the session has, which is one by its program, and shows a screen. So where the
--- loop is left, by a screen that was cut short, by a tick that wanted memory or by one that was over, the ticks so far and the last
--- one are what the result says; and one that shows a step goes on, with one step less to be made.
+-- Each turn of the loop makes a tick by the code that the session has, which is one by its program, and shows a screen.
+-- So where the loop is left, by a screen that was cut short, by a tick that wanted memory or by one that was over, the
+-- ticks so far and the last one are what the result says; and one that shows a step goes on, with one step less to be
+-- made.
 use Rattle.std.proofs.Common.{ap, sym, subst, refl, ◌∙◌, inr}
 use Rattle.plcs_machine.specs.Fetched.{FetchesAtMost}
 use Rattle.synth_session.specs.PlainScreens.{PlainScreens}

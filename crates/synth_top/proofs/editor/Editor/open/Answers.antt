@@ -1,5 +1,5 @@
--- The session is opened over what was loaded, and then told the first refusal; told so, that is the first session of the
--- definition. A message changes neither the size nor the grids.
+-- The session is opened over what was loaded, and then told the first refusal; told so, that is the first session of
+-- the definition. A message changes neither the size nor the grids.
 use Rattle.std.proofs.Common.{◌≡◌, Option, Some, None, refl, sym, ap, subst, ◌∙◌, List, ℕ, option_map}
 use Rattle.template_tree.specs.Programs.PlainTree.{PlainTree, roomless_tree}
 use Rattle.file_store.specs.declared.refusal.FileRefusal.{FileRefusal}

@@ -1,6 +1,6 @@
--- The session does what the key's outcome says, by what was replied; so by whether it wanted memory, whether the key ended the
--- session, whether a run of the program went on in it, and whether its screens were written, the one key was wanted, quit, cut or
--- shown, as a list of one.
+-- The session does what the key's outcome says, by what was replied; so by whether it wanted memory, whether the key
+-- ended the session, whether a run of the program went on in it, and whether its screens were written, the one key was
+-- wanted, quit, cut or shown, as a list of one.
 use Rattle.std.proofs.Common.{ap, refl, sym, subst, ◌∙◌, arith, inl, inr}
 use Rattle.synth_session.specs.PlainScreens.{PlainScreens}
 use Rattle.synth_session.specs.Tick.{RunFits}

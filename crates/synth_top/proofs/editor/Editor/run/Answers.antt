@@ -1,5 +1,6 @@
--- Each turn of the loop reads one byte and presses its keys, so that as many bytes were read as turns were made, and all their keys were
--- shown. Where the loop is left, by a read, by a key or by the limit, this and what the last call did are what the status says.
+-- Each turn of the loop reads one byte and presses its keys, so that as many bytes were read as turns were made, and
+-- all their keys were shown. Where the loop is left, by a read, by a key or by the limit, this and what the last call
+-- did are what the status says.
 use Rattle.std.proofs.Common.{◌≡◌, ◌∙◌, refl, ap, arith, Err}
 use Rattle.std.proofs.KnownBytes.{Consumes-nil}
 use Rattle.synth_session.specs.PlainSession.{PlainSession}

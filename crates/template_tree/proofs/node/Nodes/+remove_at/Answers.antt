@@ -1,5 +1,5 @@
--- A list after an item left at a path is the list with an edit at that path, level by level: at the end of the path the item
--- leaves its list, and each level above sets one item, in whose list the edit was made.
+-- A list after an item left at a path is the list with an edit at that path, level by level: at the end of the path the
+-- item leaves its list, and each level above sets one item, in whose list the edit was made.
 use Rattle.std.specs.Prelude.{◌≡◌, refl, ◌∷◌, [], Some, slice_get, length, suc}
 use Rattle.std.proofs.Common.{arith, ap, sym, ◌∙◌}
 use Rattle.template_tree.specs.contracts.node.Node.{the_view}

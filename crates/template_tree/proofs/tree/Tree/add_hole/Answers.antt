@@ -1,5 +1,6 @@
--- An item that is listed has a hole of its sort, which came beside it in its list; so the tree after it is that of the edit, but
--- for room. The hole stands at the added path, by which its receipt takes it out again, and the change names its procedure.
+-- An item that is listed has a hole of its sort, which came beside it in its list; so the tree after it is that of the
+-- edit, but for room. The hole stands at the added path, by which its receipt takes it out again, and the change names
+-- its procedure.
 use Rattle.std.specs.Prelude.{◌≡◌, refl, ◌+◌, ◌≤◌, Some, None, IfSome, IsSome}
 use Rattle.std.proofs.Common.{arith, ap, sym, ◌∙◌, subst}
 use Rattle.std.proofs.lemmas.Option.{none-some}

@@ -1,5 +1,5 @@
--- The hole is known to be spare, so dropping it is the edit of a tree; the receipt puts it back beside the item before it, or
--- after which it stood, into room that its list keeps.
+-- The hole is known to be spare, so dropping it is the edit of a tree; the receipt puts it back beside the item before
+-- it, or after which it stood, into room that its list keeps.
 use Rattle.std.specs.Prelude.{◌≡◌, refl, ◌-◌, ◌<◌, Some, None, []}
 use Rattle.std.proofs.Common.{arith, ap, sym, ◌∙◌, subst}
 use Rattle.template_tree.specs.declared.change.Change.{Change}

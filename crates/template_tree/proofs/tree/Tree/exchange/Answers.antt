@@ -1,5 +1,5 @@
--- The node that came is the given one in the slot of the old one, with the next slots inside; so the tree is that of the edit. As
--- many slots are live as before, less those of the old node, and with those of the new one.
+-- The node that came is the given one in the slot of the old one, with the next slots inside; so the tree is that of
+-- the edit. As many slots are live as before, less those of the old node, and with those of the new one.
 use Rattle.std.specs.Prelude.{◌≡◌, refl, ◌+◌, ◌-◌, ◌≤◌, Some}
 use Rattle.std.proofs.Common.{arith, sym, ap, ◌∙◌}
 use Rattle.template_tree.specs.contracts.tree.Tree.{the_view}

@@ -1,5 +1,5 @@
--- The hole takes nodes of the kind, and the limits were asked for the fresh node before memory was taken for it, so it may come
--- in; the node in memory is the fresh one but for room, and so is the edit.
+-- The hole takes nodes of the kind, and the limits were asked for the fresh node before memory was taken for it, so it
+-- may come in; the node in memory is the fresh one but for room, and so is the edit.
 use Rattle.std.specs.Prelude.{◌≡◌, min, length, Some, None}
 use Rattle.std.proofs.Common.{ap, sym, ◌∙◌, subst}
 use Rattle.plcs_grammar.specs.declared.node_kind.NodeKind.{NodeKind}

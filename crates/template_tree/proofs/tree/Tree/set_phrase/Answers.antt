@@ -1,5 +1,5 @@
--- Another node stands at the path where the lent one was written to: the same with its part set, which is the edit, or the very
--- same one where the part was refused, and then the tree is as before.
+-- Another node stands at the path where the lent one was written to: the same with its part set, which is the edit, or
+-- the very same one where the part was refused, and then the tree is as before.
 use Rattle.std.specs.Prelude.{refl}
 use Rattle.std.proofs.Common.{ap, sym, ◌∙◌, subst}
 use Rattle.std.proofs.Math.Bool.{false≢true}

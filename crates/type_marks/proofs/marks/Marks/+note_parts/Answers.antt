@@ -1,5 +1,5 @@
--- The parts behind this one are noted first, by the recursion; an empty part adds no verdict and no check, and a filled one
--- adds its own before theirs, for one check. Behind the last part nothing is noted, and nothing is left to note.
+-- The parts behind this one are noted first, by the recursion; an empty part adds no verdict and no check, and a filled
+-- one adds its own before theirs, for one check. Behind the last part nothing is noted, and nothing is left to note.
 use Rattle.std.proofs.Common.{◌≡◌, ℕ, ◌+◌, Some, None, drop, length, slice_get, refl, sym, ap, subst, ◌∙◌, arith}
 use Rattle.std.proofs.lemmas.Option.{slice_get_within}
 use Rattle.std.specs.Option.{option_flatten}

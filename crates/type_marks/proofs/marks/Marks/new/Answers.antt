@@ -1,5 +1,6 @@
--- The verdicts of main and the procedures from number k on are the map, and bound the checks; one fewer is left each time.
--- At 0 they are those of the whole program, since main and the procedures are found by all numbers below their count.
+-- The verdicts of main and the procedures from number k on are the map, and bound the checks; one fewer is left each
+-- time. At 0 they are those of the whole program, since main and the procedures are found by all numbers below their
+-- count.
 use Rattle.std.proofs.Common.{◌≡◌, ℕ, ◌+◌, ◌-◌, [], ◌∷◌, Some, drop, length, slice_get, sym, ap, ◌∙◌, arith}
 use Rattle.std.specs.FinMap.{from_entries}
 use Rattle.plcs_base.specs.ListLeft.{past_where_none}

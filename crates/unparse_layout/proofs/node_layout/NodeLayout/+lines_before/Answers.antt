@@ -1,5 +1,5 @@
--- Before a node inside stand the lines of the nodes before it and perhaps a line of its own, as the kept heights and `led`
--- say. All of it fits 32 bits, since no node has more than four lines.
+-- Before a node inside stand the lines of the nodes before it and perhaps a line of its own, as the kept heights and
+-- `led` say. All of it fits 32 bits, since no node has more than four lines.
 use Rattle.std.specs.Prelude.{◌≡◌, ◌+◌, Some, None, map, sum, take, slice_get}
 use Rattle.std.proofs.Common.{arith, ap, sym, ◌∙◌}
 use Rattle.unparse_layout.specs.Private.PlainNodeLayout.{PlainNodeLayout, node_layouts}

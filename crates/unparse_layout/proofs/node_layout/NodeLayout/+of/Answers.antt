@@ -1,5 +1,5 @@
--- After each turn the nodes made so far, with those that are still to be made for the sections left, are the whole layout;
--- so at the end they are all of it. Their lines are counted in 32 bits, since no node has more than four.
+-- After each turn the nodes made so far, with those that are still to be made for the sections left, are the whole
+-- layout; so at the end they are all of it. Their lines are counted in 32 bits, since no node has more than four.
 use Rattle.std.specs.Prelude.{◌≡◌, refl, Some, is_some, slice_get}
 use Rattle.std.proofs.Common.{arith, ap, sym, ◌∙◌}
 use Rattle.std.proofs.lemmas.Option.{slice_get_within}

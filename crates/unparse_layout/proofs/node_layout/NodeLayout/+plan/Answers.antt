@@ -1,5 +1,6 @@
--- A line below a node's first one is that of the elision, one of a node inside, or the last: the kept heights say which, and
--- the line's number within the node inside is what is left of the number there, less the line before that node.
+-- A line below a node's first one is that of the elision, one of a node inside, or the last: the kept heights say
+-- which, and the line's number within the node inside is what is left of the number there, less the line before that
+-- node.
 use Rattle.std.specs.Prelude.{◌≡◌, ◌+◌, ◌-◌, ◌<◌, codes, ◌∷◌, true, false, Some, is_some, length, slice_get}
 use Rattle.std.proofs.Common.{arith, ap, sym, ◌∙◌}
 use Rattle.std.proofs.lemmas.List.{length-map}

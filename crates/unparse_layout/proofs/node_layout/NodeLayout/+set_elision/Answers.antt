@@ -1,5 +1,5 @@
--- Only the node at the path changes, and its height with it: each height on the way is taken anew from the node below, so
--- the kept heights are again those of the nodes.
+-- Only the node at the path changes, and its height with it: each height on the way is taken anew from the node below,
+-- so the kept heights are again those of the nodes.
 use Rattle.std.specs.Prelude.{◌≡◌, ◌<◌, Some, length, map, sum, slice_get, slice_set}
 use Rattle.std.proofs.Common.{arith, ap, sym, ◌∙◌}
 use Rattle.std.proofs.lemmas.List.{length-map, map-set}

@@ -1,5 +1,5 @@
--- The heights that are kept are those of the program's items, so the item that holds the line of this number, and which of
--- its own lines it is, are found by them. Past the last item there is no line; a number that was found has its item.
+-- The heights that are kept are those of the program's items, so the item that holds the line of this number, and which
+-- of its own lines it is, are found by them. Past the last item there is no line; a number that was found has its item.
 use Rattle.std.specs.Prelude.{◌≡◌, ◌<◌, Some, None, is_some, length, map, slice_get}
 use Rattle.std.proofs.Common.{arith, ap, sym, ◌∙◌}
 use Rattle.std.proofs.lemmas.List.{length-map}
