@@ -12,7 +12,7 @@ use crate::words::size_at;
 use case_script::{Told, numbers_of};
 use decl_table::Decls;
 use plcs_base::{ByteOut, Counts, Marked, PhraseAt};
-use screen_window::{FEWEST_COLS, FEWEST_ROWS, Grid, View, compose, paint};
+use screen_window::{FEWEST_COLS, FEWEST_ROWS, Grid, LineCache, View, compose, paint};
 use std::alloc::{AllocError, Global};
 use std::mem;
 use synth_outside::MemSink;
@@ -115,6 +115,9 @@ fn draw<M: Marked>(
     ensures cols { grid.new.cols ≡ grid.old.cols }
 {
     let layout = Layout::new(alloc, tree).ok()?;
+    let Ok(mut lines) = LineCache::new(alloc) else {
+        return None;
+    };
     let stop = Stop {
         path: path_to(tree, view.slot),
         part: view.part,
@@ -135,7 +138,7 @@ fn draw<M: Marked>(
     // That a grid is within its bounds is known once it is asked for its rows.
     let _ = grid.rows();
     let mut work = Counts::default();
-    compose(grid, &view, &mut work);
+    compose(grid, &mut lines, &view, &mut work);
     Some(work)
 }
 

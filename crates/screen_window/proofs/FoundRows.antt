@@ -4,7 +4,7 @@ use Rattle.std.specs.Prelude.{find, option_map}
 use Rattle.std.specs.List.{range_with_len}
 use Rattle.std.proofs.lemmas.Bool.{cases_lt}
 use Rattle.plcs_base.specs.CountLaws.{LaysAddUp}
-use Rattle.plcs_base.specs.PlainCounts.{CountsNothing, LaysAtMost, LaysOne, PlainCounts}
+use Rattle.plcs_base.specs.PlainCounts.{CountsNothing, LaysAtMost, PlainCounts}
 use Rattle.template_tree.specs.Positions.Path.{node_at, slot_at}
 use Rattle.template_tree.specs.Programs.PlainTree.{PlainNode}
 use Rattle.screen_window.specs.Cursor.{cursor_position, node_row, position_in_row, stop_position}
@@ -106,12 +106,12 @@ cursor_row rows cols view node row empty there found = rw empty (at_stop rows co
 
 -- a line of the window is laid, and no other
 pub laid_more : (row window : ℕ) (first before now : PlainCounts) → LaysAddUp → LaysAtMost (min row window) first before
-    → (row < window → LaysOne before now) → (window ≤ row → CountsNothing before now) → LaysAtMost (min (row + 1) window) first now
+    → (row < window → LaysAtMost 1 before now) → (window ≤ row → CountsNothing before now) → LaysAtMost (min (row + 1) window) first now
 laid_more row window first before now laws so_far lays still = by_place (cases_lt row window)
   where
     by_place : (row < window) ⊎ (window ≤ row) → LaysAtMost (min (row + 1) window) first now
     by_place (inl below) =
-        laws.joined (min row window) 1 (min (row + 1) window) first before now (omega (arith, below)) so_far (laws.one 1 before now (omega arith) (lays below))
+        laws.joined (min row window) 1 (min (row + 1) window) first before now (omega (arith, below)) so_far (lays below)
     by_place (inr behind) =
         laws.joined (min row window) 0 (min (row + 1) window) first before now (omega (arith, behind)) so_far (laws.none 0 before now (still behind))
 

@@ -31,6 +31,8 @@ pub mod PlaceLines
 pub mod RoomlessPlaces
 -- `output_row`: lines of the output, looked for byte by byte
 pub mod OutputLines
+-- `line_cache.rt`: lines that are held in the buckets of a cache
+pub mod HeldLines
 -- `drawn` of compose: rows drawn one after the other, and the row of the cursor, looked for row by row
 pub mod ComposedRows
 pub mod FoundRows

@@ -8,6 +8,7 @@ pub mod PlainView
 pub mod View
 pub mod NodeLine
 pub mod Window
+pub mod HeldLines
 pub mod LowerRows
 pub mod Cursor
 pub mod Screen

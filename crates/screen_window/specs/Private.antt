@@ -6,3 +6,5 @@ pub mod RowCells
 pub mod ItemLine
 -- ---- a grid while a view is drawn on it, and the column of a stop
 pub mod Drawing
+-- ---- the buckets of a cache of lines
+pub mod Buckets

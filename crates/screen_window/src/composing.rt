@@ -1,12 +1,13 @@
 //! Views drawn on grids.
 
 ghost use Rattle.std.specs.Prelude.{◌≡◌, ℕ, ◌+◌, ◌-◌, ◌≤◌, ◌<◌, [], Some, map, length, slice_index_or, option_map, nat_lt, if◌then◌else◌, ◌^◌, ◌++◌};
-ghost use Rattle.plcs_base.specs.PlainCounts.{CountsNothing, LaysAtMost, LaysOne};
+ghost use Rattle.plcs_base.specs.PlainCounts.{CountsNothing, LaysAtMost};
 ghost use Rattle.template_tree.specs.Positions.Path.{slot_at};
 ghost use Rattle.template_tree.specs.Programs.PlainTree.{roomless};
 ghost use Rattle.template_tree.specs.Programs.Tree.{IsTree};
 ghost use Rattle.unparse_layout.specs.Agreement.{IsLayoutOf};
 ghost use Rattle.screen_window.specs.declared.limit.TheConstants.{FEWEST_COLS, FEWEST_ROWS, MOST_COLS, MOST_ROWS};
+ghost use Rattle.screen_window.specs.HeldLines.{HoldLinesOf};
 ghost use Rattle.screen_window.specs.Limit.{IsSize};
 ghost use Rattle.screen_window.specs.NodeLine.{is_line};
 ghost use Rattle.screen_window.specs.Screen.{Screen, screen_row, window_rows};
@@ -16,11 +17,13 @@ ghost use Rattle.screen_window.specs.Window.{is_run_line, line_row, run_line};
 ghost use Rattle.screen_window.specs.Private.RowCells.{text_cells, with_row};
 ghost use Rattle.screen_window.specs.Cursor.{begins_node, cursor_position, cut_col};
 ghost use Rattle.screen_window.specs.LowerRows.{last_ones};
+ghost use Rattle.screen_window.specs.Private.Buckets.{held_row};
 ghost use Rattle.screen_window.specs.Private.Drawing.{IsDrawn, begins_stop, found_or, row_from, row_line};
 
 use crate::cursor::{stop_col, stop_node};
 use crate::grid::Grid;
 use crate::limit::{FEWEST_COLS, FEWEST_ROWS, MOST_COLS, MOST_ROWS, OTHER_ROWS};
+use crate::line_cache::LineCache;
 use crate::lower_rows::{last_ones, message_row, output_row};
 use crate::node_line::{NodeLine, is_line, place_line};
 use crate::row_text::RowText;
@@ -29,17 +32,25 @@ use plcs_base::{Marked, Place, Work, counts_add_up};
 use template_tree::{Stop, Tree};
 use unparse_layout::{Line, LineKind};
 
-/// Draws a view on a grid. It takes no memory, and lays no more lines than the window has rows.
-pub fn compose<W: Work, M: Marked>(grid: &mut Grid, view: &View<'_, W, M>, work: &mut W)
+/// Draws a view on a grid, with lines that the cache holds, and lays those that it doesn't hold yet: no more than
+/// the window has rows. It takes no memory.
+pub fn compose<W: Work, M: Marked>(
+    grid: &mut Grid,
+    cache: &mut LineCache<W>,
+    view: &View<'_, W, M>,
+    work: &mut W,
+)
     requires tree { IsTree view.now.tree.now }
     requires layout { IsLayoutOf view.now.layout.now view.now.tree.now }
     requires top { view.now.top + grid.old.rows < 2 ^ 32 }
+    requires held { HoldLinesOf (M.marks view.now.marks.now) (roomless view.now.tree.now.items) cache.old }
     ensures drawn { grid.new ≡ Screen grid.old.rows grid.old.cols (plain_view M.marks view.now) }
     ensures rows { grid.new.rows ≡ grid.old.rows }
     ensures cols { grid.new.cols ≡ grid.old.cols }
+    ensures held { HoldLinesOf (M.marks view.now.marks.now) (roomless view.now.tree.now.items) cache.new }
     ensures counts { LaysAtMost (window_rows grid.old.rows) (W.counts work.old) (W.counts work.new) }
 {
-    let found = draw_rows(grid, view, work);
+    let found = draw_rows(grid, cache, view, work);
     let (row, col) = cursor_position(grid.rows(), grid.cols(), view, found);
     grid.place_cursor(row, col);
 }
@@ -48,18 +59,21 @@ pub fn compose<W: Work, M: Marked>(grid: &mut Grid, view: &View<'_, W, M>, work:
 /// rows count from 0.
 fn draw_rows<W: Work, M: Marked>(
     grid: &mut Grid,
+    cache: &mut LineCache<W>,
     view: &View<'_, W, M>,
     work: &mut W,
 ) -> Option<u16>
     requires tree { IsTree view.now.tree.now }
     requires layout { IsLayoutOf view.now.layout.now view.now.tree.now }
     requires top { view.now.top + grid.old.rows < 2 ^ 32 }
+    requires held { HoldLinesOf (M.marks view.now.marks.now) (roomless view.now.tree.now.items) cache.old }
     ensures drawn { IsDrawn
         (λ row. shown_row grid.old.cols (screen_row grid.old.rows grid.old.cols (plain_view M.marks view.now) row))
         grid.old.rows grid.old grid.new }
     ensures found { result
         ≡ row_from (plain_view M.marks view.now)
         (slot_at (roomless view.now.tree.now.items) view.now.stop.now.path.items) 0 (window_rows grid.old.rows) }
+    ensures held { HoldLinesOf (M.marks view.now.marks.now) (roomless view.now.tree.now.items) cache.new }
     ensures counts { LaysAtMost (window_rows grid.old.rows) (W.counts work.old) (W.counts work.new) }
 {
     counts_add_up();
@@ -68,31 +82,45 @@ fn draw_rows<W: Work, M: Marked>(
     let rows = grid.rows();
     let mut found = None;
     for row in 0..rows {
-        let laid = laid_line(view, rows - OTHER_ROWS, row, work);
-        found = found_or(found, begins_stop(stop, laid.as_ref()), row);
-        draw_row(grid, view, row, run, laid.as_ref());
+        lay_row(cache, view, rows - OTHER_ROWS, row, work);
+        let laid = held_row(cache, view.top, rows - OTHER_ROWS, row);
+        found = found_or(found, begins_stop(stop, laid), row);
+        draw_row(grid, view, row, run, laid);
     }
     found
 }
 
-/// The program's line in a row of the screen that is drawn, where that lies in the window, which has so
-/// many rows.
-fn laid_line<W: Work, M: Marked>(
+/// Lays the program's line in a row of the screen that is drawn, where that lies in the window, which has so
+/// many rows, and the line isn't held yet.
+fn lay_row<W: Work, M: Marked>(
+    cache: &mut LineCache<W>,
     view: &View<'_, W, M>,
     window: u16,
     row: u16,
     work: &mut W,
-) -> Option<Line<W>>
+)
     requires tree { IsTree view.now.tree.now }
     requires layout { IsLayoutOf view.now.layout.now view.now.tree.now }
     requires top { view.now.top + row < 2 ^ 32 }
-    ensures line { result ≡ row_line window (plain_view M.marks view.now) row }
-    ensures lays { row < window → LaysOne (W.counts work.old) (W.counts work.new) }
+    requires held { HoldLinesOf (M.marks view.now.marks.now) (roomless view.now.tree.now.items) cache.old }
+    ensures held { HoldLinesOf (M.marks view.now.marks.now) (roomless view.now.tree.now.items) cache.new }
+    ensures line { held_row cache.new view.now.top window row ≡ row_line window (plain_view M.marks view.now) row }
+    ensures lays { row < window → LaysAtMost 1 (W.counts work.old) (W.counts work.new) }
     ensures still { window ≤ row → CountsNothing (W.counts work.old) (W.counts work.new) }
 {
     if row < window {
-        view.layout
-            .line(view.tree, view.marks, view.top + u32::from(row), work)
+        cache.lay(view, view.top + u32::from(row), work);
+    }
+}
+
+/// The program's line in a row of the screen that is drawn, as it is held, where that lies in the window,
+/// which begins with the line of the number `top` and has so many rows.
+fn held_row<W: Work>(cache: &LineCache<W>, top: u32, window: u16, row: u16) -> Option<&Line<W>>
+    requires { top + row < 2 ^ 32 }
+    ensures { option_map (λ line. line.now) result ≡ held_row cache.now top window row }
+{
+    if window > row {
+        cache.line(top + u32::from(row))
     } else {
         None
     }

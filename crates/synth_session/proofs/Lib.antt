@@ -56,6 +56,8 @@ pub mod CountedPrograms
 pub mod FittingRuns
 -- the run of a session in go_on, and what is asked of it there; resume and step_on
 pub mod ResumedRuns
+-- `session`, `code`, `ready` and `same` of draw: a session whose next screen was drawn
+pub mod DrawnSessions
 -- `DoesByReply` of keys and commands that ask nothing of the files
 pub mod UnaskedKeys
 -- `counts` of keys in which memory runs out

@@ -5,8 +5,8 @@ use Rattle.plcs_base.specs.PlainCounts.{PlainCounts}
 use Rattle.plcs_base.specs.declared.memory.OutOfMemory.{OutOfMemory}
 use Rattle.synth_outside.specs.Files.{PlainFiles}
 use Rattle.template_tree.specs.Programs.Limit.{most_slots}
-use Rattle.template_tree.specs.Checks.Marks.{Verdicts}
-use Rattle.template_tree.specs.Programs.PlainTree.{Forest, PlainTree, roomless_tree}
+use Rattle.template_tree.specs.Checks.Marks.{Verdicts, offences}
+use Rattle.template_tree.specs.Programs.PlainTree.{Forest, PlainTree, roomless, roomless_tree}
 use Rattle.template_tree.specs.Positions.Stop.{IsStop, line_at, plain_stop}
 use Rattle.template_tree.specs.Programs.Tree.{IsTree}
 use Rattle.tree_steps.specs.EditStep.{CameByEdits}
@@ -20,6 +20,7 @@ use Rattle.back_steps.specs.EarlierConfigurations.{configurations_before}
 use Rattle.decl_table.specs.Agreement.{IsDeclsOf}
 use Rattle.clip_store.specs.PlainClips.{kept_pairs}
 use Rattle.unparse_layout.specs.Agreement.{IsLayoutOf}
+use Rattle.screen_window.specs.HeldLines.{HoldLinesOf}
 use Rattle.screen_window.specs.PlainGrid.{PlainGrid}
 use Rattle.screen_window.specs.Screen.{window_rows}
 use Rattle.synth_session.specs.declared.answer.Answer.{Answer}
@@ -86,10 +87,12 @@ pub record DependOn {W : Type 0} (dependents : Dependents W) (tree : PlainTree) 
   pub decls : IsDeclsOf dependents.decls tree.items
   pub marks : dependents.marks ≡ Verdicts tree.items
 
--- the program of a session in the code is a tree, and what depends on it is that of this tree
+-- the program of a session in the code is a tree, what depends on it is that of this tree, and the lines that are held
+-- are the tree's, under its marks
 pub record Agrees {W : Type 0} (program : Program W) : Type 0 where
   pub tree : IsTree program.tree
   pub dependents : DependOn program.dependents program.tree
+  pub lines : HoldLinesOf (offences program.dependents.marks) (roomless program.tree.items) program.lines
 
 -- a condition of a session: the cursor stands at a visible stop, and the window begins at a line that a program can
 -- have

@@ -25,6 +25,7 @@ use clip_store::Fragment;
 use decl_table::Decls;
 use plcs_base::{OutOfMemory, Work};
 use plcs_code::{FlatCode, generate, programs_have_one_code};
+use screen_window::LineCache;
 use session_edit::{Applied, Edit, apply, edits_at_stops_are_steps};
 use std::alloc::Global;
 use template_tree::{
@@ -34,11 +35,12 @@ use tree_steps::edits_follow;
 use type_marks::Marks;
 use unparse_layout::{Layout, layouts_ignore_room};
 
-/// The program that is edited, with all that is computed from it.
+/// The program that is edited, with all that is computed from it, and the lines of it that were laid for the window.
 #[derive(Drop)]
 pub struct Program<W> {
     pub tree: Tree,
     pub dependents: Dependents<W>,
+    pub lines: LineCache<W>,
 }
 
 /// All that depends on a program: its layout, its table of declarations, its verdicts, and its code.
@@ -93,12 +95,17 @@ impl<W: Work> Program<W> {
         ensures counts { CountsProgram (phrase_count (roomless_tree tree)) (code_length (roomless_tree tree))
             (W.counts work.old) (W.counts work.new) }
     {
+        let lines = LineCache::new(alloc)?;
         let dependents = Dependents::of(alloc, &tree, work)?;
-        Ok(Program { tree, dependents })
+        Ok(Program {
+            tree,
+            dependents,
+            lines,
+        })
     }
 
-    /// Edits the program at the stop: the tree is edited, then all memory is taken that what depends on it
-    /// needs, and then that is put in place. Where memory runs out the tree is given back.
+    /// Edits the program at the stop: its lines are forgotten, the tree is edited, then all memory is taken that
+    /// what depends on it needs, and then that is put in place. Where memory runs out the tree is given back.
     pub(crate) fn change(
         &mut self,
         alloc: Global,
@@ -127,6 +134,7 @@ impl<W: Work> Program<W> {
         room_is_not_shown();
         edits_follow();
         edits_at_stops_are_steps();
+        self.lines.forget();
         let applied = apply(alloc, &mut self.tree, at, edit)?;
         match self.renew(alloc, work) {
             Ok(()) => Ok(Changed::by(applied)),
@@ -145,6 +153,7 @@ impl<W: Work> Program<W> {
         requires tree { IsTree self.old.tree }
         ensures depend { IfOk result (λ _. DependOn self.new.dependents self.old.tree) }
         ensures tree { self.new.tree ≡ self.old.tree }
+        ensures lines { self.new.lines ≡ self.old.lines }
         ensures same { IfErr result (λ _. self.new.dependents ≡ self.old.dependents) }
         ensures code { IfOk result (λ _. HasCode self.new) }
         ensures counts { CountsProgram
@@ -160,6 +169,7 @@ impl<W: Work> Program<W> {
     fn depend_on(&mut self, dependents: Dependents<W>)
         ensures dependents { self.new.dependents ≡ dependents }
         ensures tree { self.new.tree ≡ self.old.tree }
+        ensures lines { self.new.lines ≡ self.old.lines }
     {
         self.dependents = dependents;
     }
@@ -243,6 +253,7 @@ impl<W: Work> Program<W> {
         room_is_not_shown();
         checks_ignore_room_and_elision();
         programs_have_one_code();
+        self.lines.forget();
         // Whether it is hidden now, no key tells.
         let _ = self.tree.elide(path);
         self.dependents.layout.elided(&self.tree, path);

@@ -1,8 +1,10 @@
 //! The two screens of a session: the one that is shown, and the one that is shown next.
 ghost use Rattle.std.specs.Prelude.{◌≡◌, ◌+◌, ◌-◌, ◌≤◌, ◌<◌, ◌^◌, IfOk, OnErr, OnOk};
 ghost use Rattle.plcs_base.specs.PlainCounts.{LaysAtMost};
+ghost use Rattle.template_tree.specs.Programs.PlainTree.{roomless};
 ghost use Rattle.template_tree.specs.Programs.Tree.{IsTree};
 ghost use Rattle.unparse_layout.specs.Agreement.{IsLayoutOf};
+ghost use Rattle.screen_window.specs.HeldLines.{HoldLinesOf};
 ghost use Rattle.screen_window.specs.Paint.{Paint};
 ghost use Rattle.screen_window.specs.PlainGrid.{blank_grid};
 ghost use Rattle.screen_window.specs.Screen.{Screen, window_rows};
@@ -12,7 +14,7 @@ ghost use Rattle.screen_window.specs.declared.limit.TheConstants.{MOST_ROWS, OTH
 
 use crate::size::ScreenSize;
 use plcs_base::{Marked, OutOfMemory, Work};
-use screen_window::{Grid, OTHER_ROWS, View, compose, paint};
+use screen_window::{Grid, LineCache, OTHER_ROWS, View, compose, paint};
 use std::alloc::Global;
 use std::marker::Model;
 use std::mem;
@@ -58,18 +60,25 @@ impl Screens {
         self.shown.rows() - OTHER_ROWS
     }
 
-    /// Draws a view on the screen that is shown next.
-    pub(crate) fn draw<W: Work, M: Marked>(&mut self, view: &View<'_, W, M>, work: &mut W)
+    /// Draws a view on the screen that is shown next, with the lines that are held.
+    pub(crate) fn draw<W: Work, M: Marked>(
+        &mut self,
+        lines: &mut LineCache<W>,
+        view: &View<'_, W, M>,
+        work: &mut W,
+    )
         requires tree { IsTree view.now.tree.now }
         requires layout { IsLayoutOf view.now.layout.now view.now.tree.now }
         requires top { view.now.top + MOST_ROWS < 2 ^ 32 }
+        requires held { HoldLinesOf (M.marks view.now.marks.now) (roomless view.now.tree.now.items) lines.old }
         ensures next { self.new.next ≡ Screen self.old.shown.rows self.old.shown.cols (plain_view M.marks view.now) }
         ensures shown { self.new.shown ≡ self.old.shown }
+        ensures held { HoldLinesOf (M.marks view.now.marks.now) (roomless view.now.tree.now.items) lines.new }
         ensures counts { LaysAtMost (window_rows self.old.shown.rows) (W.counts work.old) (W.counts work.new) }
     {
         // That the screen is within its bounds is known once it is asked for its rows.
         let _ = self.next.rows();
-        compose(&mut self.next, view, work);
+        compose(&mut self.next, lines, view, work);
     }
 
     /// Paints the next screen over the one that is shown, and shows it then.

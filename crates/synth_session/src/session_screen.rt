@@ -38,8 +38,9 @@ impl<W: Work> Session<W> {
         requires session { IsSession self.old }
         requires code { HasProgramCode self.old }
         ensures session { IsSession self.new }
-        ensures program { self.new.program ≡ self.old.program }
+        ensures code { HasProgramCode self.new }
         ensures run { self.new.run ≡ self.old.run }
+        ensures ready { IsReadyForKey self.old → IsReadyForKey self.new }
         ensures next { next_grid self.new ≡ grid (plain_session self.old) }
         ensures shown { shown_grid self.new ≡ shown_grid self.old }
         ensures same { plain_session self.new ≡ plain_session self.old }
@@ -51,7 +52,7 @@ impl<W: Work> Session<W> {
         let shown = self.shown_code(work);
         draw_on(
             &mut self.screens,
-            &self.program,
+            &mut self.program,
             &self.stop,
             self.top,
             self.run.shown_place(),
@@ -111,10 +112,10 @@ fn shown_text(message: Option<Message>) -> MessageText
 }
 
 /// Draws the screen of a session as the one that is to be painted next: its program, and these texts in the
-/// lowest rows.
+/// lowest rows. Lines of the program that are laid are held.
 fn draw_on<'a, W: Work>(
     screens: &mut Screens,
-    program: &'a Program<W>,
+    program: &mut Program<W>,
     stop: &'a Stop,
     top: u32,
     run_place: Option<Place>,
@@ -125,11 +126,11 @@ fn draw_on<'a, W: Work>(
     code: Option<&'a [Vec<u8>]>,
     work: &mut W,
 )
-    requires agrees { Agrees program.now }
+    requires agrees { Agrees program.old }
     requires top { top ≤ 4 * most_slots }
     ensures next { screens.new.next ≡ Screen screens.old.shown.rows screens.old.shown.cols (record {
-      items = (roomless_tree program.entry.now.tree).items;
-      marks = Marks (roomless_tree program.entry.now.tree).items;
+      items = (roomless_tree program.old.tree).items;
+      marks = Marks (roomless_tree program.old.tree).items;
       stop = plain_stop stop.entry.now;
       top = top;
       run_place = run_place;
@@ -140,6 +141,9 @@ fn draw_on<'a, W: Work>(
       code = option_map (λ rows. map (λ text. text.items) rows.now) code.entry;
     }) }
     ensures shown { screens.new.shown ≡ screens.old.shown }
+    ensures agrees { Agrees program.new }
+    ensures tree { program.new.tree ≡ program.old.tree }
+    ensures dependents { program.new.dependents ≡ program.old.dependents }
     ensures counts { LaysAtMost (window_rows screens.old.shown.rows) (W.counts work.old) (W.counts work.new) }
 {
     checks_ignore_room_and_elision();
@@ -156,7 +160,7 @@ fn draw_on<'a, W: Work>(
         typed,
         code,
     };
-    screens.draw(&view, work);
+    screens.draw(&mut program.lines, &view, work);
 }
 
 /// How many bytes a prompt has at most.

@@ -14,7 +14,7 @@ loop-row-preserved g c =
     let view = plain_view g.M.Marked.marks c.args.view.now in
     let slot = slot_at (roomless c.args.view.now.tree.now.items) c.args.view.now.stop.now.path.items in
     let line = row_line (c.args.grid.now.rows - 6) view c.loop-row.row in
-    let laid_is = c.as_ref.ensures.value ∙ c.laid_line-laid.ensures.line ∙ ap (λ n. row_line (n - 6) view c.loop-row.row) c.rows-rows.ensures.value in
+    let laid_is = c.held_row-laid.ensures ∙ c.lay_row.ensures.line ∙ ap (λ n. row_line (n - 6) view c.loop-row.row) c.rows-rows.ensures.value in
     let found_is : c.found_or-found.result ≡ found_or c.loop-row.found (begins_stop slot line) c.loop-row.row =
     c.found_or-found.ensures
     ∙ ap (λ b. found_or c.loop-row.found b c.loop-row.row)
@@ -25,12 +25,13 @@ loop-row-preserved g c =
       count = ap (λ v. length v.lines) c.draw_row.ensures ∙ length-set c.loop-row.grid.lines c.loop-row.row _ ∙ c.loop-row.invariant.count;
       found = found_more view (slot_at (roomless c.args.view.now.tree.now.items) c.args.view.now.stop.now.path.items) (c.args.grid.now.rows - 6) c.loop-row.row c.loop-row.found _ c.loop-row.invariant.found
           ∙ ap (λ o. found_before o (row_from view slot (c.loop-row.row + 1) (c.args.grid.now.rows - 6 - (c.loop-row.row + 1)))) (sym found_is);
+      held = c.lay_row.ensures.held;
       counts =
           let window = c.args.grid.now.rows - 6 in
           let same : c.rows-rows.result - 6 ≡ window = ap (λ n. n - 6) c.rows-rows.ensures.value in
           laid_more c.loop-row.row window _ _ _ c.counts_add_up.ensures.lays c.loop-row.invariant.counts
-          (λ below. c.laid_line-laid.ensures.lays (omega (arith, same, below)))
-          (λ behind. c.laid_line-laid.ensures.still (omega (arith, same, behind)));
+          (λ below. c.lay_row.ensures.lays (omega (arith, same, below)))
+          (λ behind. c.lay_row.ensures.still (omega (arith, same, behind)));
     }
 
 -- the window has no more rows than the screen

@@ -1,6 +1,7 @@
 use Rattle.std.proofs.Common.{ap, sym, subst, ◌∙◌}
+use Rattle.template_tree.specs.Checks.Marks.{offences}
 use Rattle.template_tree.specs.Laws.CheckLaws.{CheckAlike}
-use Rattle.template_tree.specs.Programs.PlainTree.{PlainTree, roomless_tree}
+use Rattle.template_tree.specs.Programs.PlainTree.{PlainTree, roomless, roomless_tree}
 use Rattle.synth_session.specs.ProgramCode.{code_of}
 use Rattle.synth_session.proofs.AgreeingDependents.{decls_stay}
 use Rattle.synth_session.proofs.ProgramCodes.{code_turned}
@@ -20,6 +21,7 @@ returns-clause-agrees g c =
                 c.requires.agrees.dependents.decls alike;
             marks = c.requires.agrees.dependents.marks ∙ sym alike.verdicts;
           };
+      lines = c.forget.ensures (offences c.args.self.now.dependents.marks) (roomless c.elide.new.self.items);
     }
 
 pub returns-clause-code : goal.returns-clause-code

@@ -1,0 +1,43 @@
+-- A session whose next screen was drawn, with lines of its program that came to be held.
+use Rattle.std.proofs.Common.{◌≡◌, ap, sym, subst, ◌∙◌, option_map}
+use Rattle.template_tree.specs.Programs.PlainTree.{PlainTree, roomless_tree}
+use Rattle.screen_window.specs.PlainGrid.{PlainGrid}
+use Rattle.synth_session.specs.declared.program.Dependents.{Dependents}
+use Rattle.synth_session.specs.declared.program.Program.{Program}
+use Rattle.synth_session.specs.declared.session.Session.{Session}
+use Rattle.synth_session.specs.PlainHeldRun.{PlainHeldRun}
+use Rattle.synth_session.specs.PlainScreens.{PlainScreens}
+use Rattle.synth_session.specs.ProgramCode.{code_of}
+use Rattle.synth_session.specs.SessionView.{Agrees, HasFittingRun, HasProgramCode, IsPlaced, IsSeen, IsSession, plain_run, plain_session}
+use Rattle.synth_session.proofs.KeptRuns.{MayGoOnIfStands}
+
+module _ {W : Type 0} where
+  -- with another screen to be painted next, and a program of the same tree, a session is seen the same
+  pub drawn_same : (s : Session W) (screens : PlainScreens) (program : Program W) → program.tree ≡ s.program.tree
+      → screens.shown ≡ s.screens.shown → plain_session (record s { screens = screens; program = program }) ≡ plain_session s
+  drawn_same s screens program tree shown =
+      ap (λ (t : PlainTree).
+      record (plain_session (record s { screens = screens }))
+      { tree = roomless_tree t; run = option_map (plain_run (roomless_tree t).items s.run.undos) s.run.run }) tree
+      ∙ ap (λ (g : PlainGrid). record (plain_session s) { size = record { rows = g.rows; cols = g.cols } }) shown
+
+  -- one that is seen the same keeps the conditions between its parts, where its program agrees
+  pub drawn_session : (old now : Session W) → Agrees now.program → plain_session now ≡ plain_session old → IsSession old → IsSession now
+  drawn_session old now agrees same is =
+      record {
+        agrees = agrees;
+        placed = subst IsPlaced (sym same) is.placed;
+        seen = subst IsSeen (sym same) is.seen;
+      }
+
+  -- its code is that of its program
+  pub drawn_code : (old now : Session W) → now.program.tree ≡ old.program.tree → now.program.dependents ≡ old.program.dependents
+      → HasProgramCode old → HasProgramCode now
+  drawn_code old now tree dependents code =
+      ap (λ (d : Dependents W). d.code) dependents ∙ code ∙ sym (ap (λ (t : PlainTree). code_of (roomless_tree t)) tree)
+
+  -- and its run may go on as before
+  pub drawn_run : (old now : Session W) → now.program.tree ≡ old.program.tree → now.run ≡ old.run → HasFittingRun old → HasFittingRun now
+  drawn_run old now tree run fits =
+      subst (λ (r : PlainHeldRun). MayGoOnIfStands (roomless_tree now.program.tree) r.undos r.run) (sym run)
+      (subst (λ (t : PlainTree). MayGoOnIfStands (roomless_tree t) old.run.undos old.run.run) (sym tree) fits)
