@@ -13,13 +13,20 @@ pub trait ByteOut {
     /// Puts one byte behind those that were put before.
     fn put(&mut self, byte: u8)
         ensures { puts self.old byte self.new };
+
+    /// Puts the bytes behind those that were put before: one after the other, or at once where that comes to the same.
+    fn put_all(&mut self, bytes: &[u8])
+        ensures { PutsAll puts self.old bytes.now self.new }
+    {
+        for byte in bytes {
+            self.put(*byte);
+        }
+    }
 }
 
 /// Puts the bytes, one after the other.
 pub fn put_bytes<O: ByteOut>(bytes: &[u8], out: &mut O)
     ensures { PutsAll O.puts out.old bytes.now out.new }
 {
-    for byte in bytes {
-        out.put(*byte);
-    }
+    out.put_all(bytes);
 }

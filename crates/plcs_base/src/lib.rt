@@ -22,7 +22,7 @@ pub use count_laws::counts_add_up;
 pub use declared::{Declared, ItemType};
 pub use mark::{MarkKind, Marked};
 pub use memory::OutOfMemory;
-pub use name::{LONGEST_NAME, Name};
+pub use name::{LONGEST_NAME, Name, is_keyword};
 pub use place::{PhraseAt, Place, Point, Slot};
 pub use put_laws::puts_in_turn;
 pub use scope::Scope;

@@ -9,36 +9,28 @@ use crate::byte::{is_letter, is_name_byte};
 use arrayvec::ArrayVec;
 use std::marker::Model;
 
-/// The keywords, which are no names.
-const KEYWORDS: [&[u8]; 27] = [
-    b"BIT",
-    b"BY",
-    b"CALL",
-    b"CHARACTER",
-    b"DECLARE",
-    b"DO",
-    b"ELSE",
-    b"END",
-    b"FIXED",
-    b"FLOAT",
-    b"GET",
-    b"IF",
-    b"LIST",
-    b"MAIN",
-    b"OPTIONS",
-    b"OTHERWISE",
-    b"PROCEDURE",
-    b"PUT",
-    b"RETURN",
-    b"SELECT",
-    b"SKIP",
-    b"THEN",
-    b"TO",
-    b"UNTIL",
-    b"VARYING",
-    b"WHEN",
-    b"WHILE",
+/// The keywords of 2 bytes, which are no names, as are those of each other length.
+const KEYWORDS_OF_2: [&[u8]; 4] = [b"BY", b"DO", b"IF", b"TO"];
+
+/// The keywords of 3 bytes, which are no names.
+const KEYWORDS_OF_3: [&[u8]; 4] = [b"BIT", b"END", b"GET", b"PUT"];
+
+/// The keywords of 4 bytes, which are no names.
+const KEYWORDS_OF_4: [&[u8]; 7] = [
+    b"CALL", b"ELSE", b"LIST", b"MAIN", b"SKIP", b"THEN", b"WHEN",
 ];
+
+/// The keywords of 5 bytes, which are no names.
+const KEYWORDS_OF_5: [&[u8]; 4] = [b"FIXED", b"FLOAT", b"UNTIL", b"WHILE"];
+
+/// The keywords of 6 bytes, which are no names.
+const KEYWORDS_OF_6: [&[u8]; 2] = [b"RETURN", b"SELECT"];
+
+/// The keywords of 7 bytes, which are no names.
+const KEYWORDS_OF_7: [&[u8]; 3] = [b"DECLARE", b"OPTIONS", b"VARYING"];
+
+/// The keywords of 9 bytes, which are no names; none has 8, and none has more.
+const KEYWORDS_OF_9: [&[u8]; 3] = [b"CHARACTER", b"OTHERWISE", b"PROCEDURE"];
 
 /// How many bytes a name may have.
 pub const LONGEST_NAME: usize = 31;
@@ -69,10 +61,23 @@ impl Name {
         ensures names { IsSome result ↔ (IsName bytes.now) }
         ensures same { IfSome result (λ name. name ≡ bytes.now) }
     {
-        match ArrayVec::try_from(bytes) {
-            Ok(kept) if is_name(bytes) => Some(Name { bytes: kept }),
-            _ => None,
+        if is_name(bytes) {
+            Some(Name::of(bytes))
+        } else {
+            None
         }
+    }
+
+    /// The name that the bytes are, which `read` tests. It takes no memory.
+    #[tactic(auto, using(crate::proofs::Words::name_short))]
+    pub fn of(bytes: &[u8]) -> Name
+        requires { IsName bytes.now }
+        ensures { result ≡ bytes.now }
+    {
+        let Ok(bytes) = ArrayVec::try_from(bytes) else {
+            unreachable!()
+        };
+        Name { bytes }
     }
 
     /// The bytes of the name.
@@ -87,10 +92,7 @@ impl Name {
     pub fn copy(&self) -> Name
         ensures { result ≡ self.now }
     {
-        let Some(copy) = Name::read(self.as_bytes()) else {
-            unreachable!()
-        };
-        copy
+        Name::of(self.as_bytes())
     }
 }
 
@@ -118,12 +120,22 @@ fn all_name_bytes(bytes: &[u8]) -> bool
     bytes.iter().all(|byte| is_name_byte(*byte))
 }
 
-/// Whether the bytes are one of the keywords.
-#[tactic(auto, unfolding(crate::specs::Name::is_keyword))]
-fn is_keyword(bytes: &[u8]) -> bool
+/// Whether the bytes are one of the keywords, which are no names. They are compared with the keywords of their length
+/// alone.
+#[tactic(auto, using(crate::proofs::Words::no_keyword))]
+pub fn is_keyword(bytes: &[u8]) -> bool
     ensures { result ≡ is_keyword bytes.now }
 {
-    is_one_of(bytes, &KEYWORDS)
+    match bytes.len() {
+        2 => is_one_of(bytes, &KEYWORDS_OF_2),
+        3 => is_one_of(bytes, &KEYWORDS_OF_3),
+        4 => is_one_of(bytes, &KEYWORDS_OF_4),
+        5 => is_one_of(bytes, &KEYWORDS_OF_5),
+        6 => is_one_of(bytes, &KEYWORDS_OF_6),
+        7 => is_one_of(bytes, &KEYWORDS_OF_7),
+        9 => is_one_of(bytes, &KEYWORDS_OF_9),
+        _ => false,
+    }
 }
 
 /// Whether the bytes are one of these words, such as the keywords, which are no names.

@@ -2,7 +2,7 @@ use Rattle.std.proofs.Common.{◌<◌, length, sym, arith}
 use Rattle.std.proofs.lemmas.List.{take_more}
 use Rattle.plcs_base.specs.Put.{puts_nothing}
 use Rattle.plcs_base.specs.Putting.{puts_behind, puts_same}
-use Rattle.plcs_base.proofs.byte_out.put_bytes.Goals as goal
+use Rattle.plcs_base.proofs.byte_out.ByteOut.put_all.Goals as goal
 
 pub loop-byte-init : goal.loop-byte-init
 loop-byte-init g c = puts_nothing
