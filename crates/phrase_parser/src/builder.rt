@@ -35,7 +35,10 @@ pub fn build(
 {
     let mut state = start_state(alloc, category)?;
     for token in tokens {
-        state = shift(alloc, state, text, *token)?;
+        match shift(alloc, state, text, *token) {
+            Ok(behind) => state = behind,
+            Err(fault) => return Err(fault),
+        }
     }
     phrase_of(alloc, state)
 }

@@ -1,13 +1,14 @@
 //! The token that a text begins with.
-ghost use Rattle.std.specs.Prelude.{◌≡◌, min};
-ghost use Rattle.plcs_grammar.specs.Token.{numeral_value};
+ghost use Rattle.std.specs.Prelude.{◌≡◌, min, true};
+ghost use Rattle.plcs_base.specs.Byte.{is_letter};
+ghost use Rattle.plcs_grammar.specs.Token.{begins_with, numeral_value};
 ghost use Rattle.phrase_parser.specs.Private.PlacedToken.{greatest_kept};
 ghost use Rattle.phrase_parser.specs.Private.Front.{front_of, word_front, number_front, constant_front, sign_front, sign_kept};
 
 use crate::byte_class::{ByteClass, leading};
 use crate::constant::{bit_constant, constant_length};
 use crate::token::{GREATEST_KEPT, TokenKind};
-use plcs_base::{LONGEST_NAME, Name, is_digit, is_letter};
+use plcs_base::{LONGEST_NAME, is_digit, is_keyword, is_letter};
 use plcs_grammar::{Sign, numeral_value};
 
 /// A token that a text begins with.
@@ -34,16 +35,19 @@ pub fn front_of(text: &[u8]) -> Option<Front>
 
 /// The name or keyword that a text begins with, where its first byte is a letter. A run of more bytes than a
 /// name may have is neither.
+#[tactic(auto, using(crate::proofs::Tokens::Words::word_kept))]
 fn word_front(text: &[u8]) -> Option<Front>
+    requires { begins_with is_letter text.now ≡ true }
     ensures { result ≡ word_front text.now }
 {
     let length = leading(ByteClass::NameByte, text);
     if length > LONGEST_NAME {
         return None;
     }
-    let kind = match Name::read(&text[..length]) {
-        Some(_) => TokenKind::Name,
-        None => TokenKind::Keyword,
+    let kind = if is_keyword(&text[..length]) {
+        TokenKind::Keyword
+    } else {
+        TokenKind::Name
     };
     Some(Front { kind, length })
 }

@@ -19,12 +19,16 @@ pub struct TokenList {
     pub stop: Option<usize>,
 }
 
+/// For how many tokens room is taken at first. Most phrases have fewer.
+const FEW_TOKENS: usize = 16;
+
 /// All tokens into which the text is cut, up to its end or to the byte where none can be made. The work grows with
 /// the text's length alone: no byte is looked at more than a few times.
+#[inline(never)]
 pub fn tokens(alloc: Global, text: &[u8]) -> Result<TokenList, AllocError>
     ensures { IfOk result (λ tokens. AreTokens tokens.placed.items tokens.stop text.now) }
 {
-    let mut placed = Vec::new(alloc);
+    let mut placed = Vec::with_capacity(alloc, FEW_TOKENS)?;
     let mut start = behind_blanks(text, 0);
     while start < text.len() {
         let Some(token) = token_at(text, start) else {

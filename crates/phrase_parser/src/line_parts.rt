@@ -1,5 +1,5 @@
 //! Lines cut at the fixed texts that divide their parts.
-ghost use Rattle.std.specs.Prelude.{◌≡◌, ◌&&◌, not, nat_eq, Some, None, MatchOption};
+ghost use Rattle.std.specs.Prelude.{◌≡◌, ◌&&◌, not, nat_eq, true, false, Some, None, MatchOption};
 ghost use Rattle.std.specs.List.{starts_with};
 ghost use Rattle.phrase_parser.specs.LineParts.{cut_at, is_quoted_behind};
 
@@ -25,7 +25,23 @@ pub fn cut_at<'a>(text: &'a [u8], divider: &[u8]) -> Option<(&'a [u8], &'a [u8])
 fn ends_part(inside: bool, here: &[u8], divider: &[u8]) -> bool
     ensures { result ≡ (not inside && starts_with nat_eq here.now divider.now) }
 {
+    if has_another_first(here, divider) {
+        return false;
+    }
     !inside && here.starts_with(divider)
+}
+
+/// Whether a line has another byte here than the first one of the divider, so that no part of it ends here.
+fn has_another_first(here: &[u8], divider: &[u8]) -> bool
+    ensures { result ≡ true → starts_with nat_eq here.now divider.now ≡ false }
+{
+    let Some((first, _)) = divider.split_first() else {
+        return false;
+    };
+    let Some((byte, _)) = here.split_first() else {
+        return false;
+    };
+    first != byte
 }
 
 /// Whether what follows the byte of a line is inside of quotes.

@@ -1,5 +1,5 @@
 -- Frames in a list, the innermost last, as the machine's stack.
-use Rattle.std.proofs.Common.{◌≡◌, refl, ap, ◌∙◌, List, [], ◌∷◌, ◌++◌, map, None}
+use Rattle.std.proofs.Common.{◌≡◌, ℕ, suc, true, ◌==◌, length, refl, ap, ◌∙◌, arith, eqb-true, List, [], ◌∷◌, ◌++◌, map, None}
 use Rattle.std.proofs.lemmas.List.{map-append}
 use Rattle.plcs_grammar.specs.declared.expr.Expr.{Expr}
 use Rattle.plcs_grammar.specs.declared.expr.VarRef.{VarRef}
@@ -8,7 +8,8 @@ use Rattle.phrase_parser.specs.Private.Machine as machine
 use Rattle.phrase_parser.specs.Private.Machine.{expr_push, phrase_of_stack}
 use Rattle.phrase_parser.specs.declared.builder.stack.ParseFrame.{ParseFrame}
 use Rattle.phrase_parser.specs.declared.builder.stack.ParseFrame.TheVariants as frame
-use Rattle.phrase_parser.specs.Private.Views.{pushed, stack_on}
+use Rattle.phrase_parser.specs.declared.builder.stack.ParseStack.{ParseStack}
+use Rattle.phrase_parser.specs.Private.Views.{base_of, pushed, stack_of, stack_on}
 
 -- the last frame of a list stands on top of the stack
 pub stack_on_push : (s : machine.ParseStack) (fs : List ParseFrame) (f : ParseFrame) → stack_on s (fs ++ (f ∷ [])) ≡ pushed f (stack_on s fs)
@@ -35,3 +36,16 @@ ended_at_open (frame.Left a op) s t = refl
 ended_at_open frame.Parenthesis s t = refl
 ended_at_open (frame.Subscript name) s t = refl
 ended_at_open (frame.Arguments function done) s t = refl
+
+-- an operand is joined with nothing where no frame is open on the stack
+pub nothing_open : (s : ParseStack) (level : ℕ) (t : PlainExpr) → (length s.frames.items == 0) ≡ true
+    → (stack_of s, t) ≡ machine.reduced (stack_of s) level t
+nothing_open s level t none = go s.frames.items none
+  where
+    go : (fs : List ParseFrame) → (length fs == 0) ≡ true
+        → (stack_on (machine.ParseStack.base (base_of s.base)) fs, t)
+        ≡ machine.reduced (stack_on (machine.ParseStack.base (base_of s.base)) fs) level t
+    go [] none = refl
+    go (f ∷ fs) none =
+        let same : suc (length fs) ≡ 0 = eqb-true (suc (length fs)) 0 none in
+        absurd (omega (arith, same))

@@ -1,8 +1,8 @@
 -- What the model of the code finds at the front of a text is a token there.
 use Rattle.std.proofs.Common.{◌≡◌, ℕ, ◌≤◌, Bool, true, false, not, ◌&&◌, cond, eqb, List, [], ◌∷◌, ◌++◌, length, take, drop, refl, sym, ap, ◌∙◌, subst, inl, inr, arith, Option, Some, None}
 use Rattle.std.specs.Prelude.{nat_le, bytes_eq}
-use Rattle.std.specs.List.{list_all, prefix_len}
-use Rattle.std.proofs.lemmas.Bool.{and_parts, and_from, cond-true, cond-false, cond_both, eqb-true, cases_Bool, not-true, not_from_false}
+use Rattle.std.specs.List.{prefix_len}
+use Rattle.std.proofs.lemmas.Bool.{and_parts, cond-true, cond-false, cond_both, eqb-true, cases_Bool, not-true, not_from_false}
 use Rattle.std.proofs.lemmas.Option.{none-some, same_Some, cond_some}
 use Rattle.std.proofs.lemmas.List.{take-append-drop}
 use Rattle.std.proofs.lemmas.List.Folds.{length-prefix_len}
@@ -17,9 +17,9 @@ use Rattle.phrase_parser.specs.declared.token.TokenKind.TheVariants as kind
 use Rattle.phrase_parser.specs.Private.PlacedToken.{kept_kind}
 use Rattle.phrase_parser.specs.Private.Front.{front_of, word_front, number_front, constant_of, constant_front, bit_constant, bit_value, constant_end, longer_sign, sign_kept, sign_front, double_at, ends_word}
 use Rattle.phrase_parser.proofs.FoundElements.{found_passes}
-use Rattle.phrase_parser.proofs.Tokens.ByteRuns.{run_all, run_ends, run_begins, run_first}
+use Rattle.phrase_parser.proofs.Tokens.ByteRuns.{run_all, run_ends, run_begins}
 use Rattle.phrase_parser.proofs.Tokens.QuotedTexts.{constant_end_tells, quoted_append, length_quoted}
-use Rattle.phrase_parser.proofs.Tokens.Words.{letter_is_name_byte, word_no_name}
+use Rattle.phrase_parser.proofs.Tokens.Words.{run_is_word, word_no_name}
 
 -- a token begins the text, of which the front keeps the kind and the length
 pub record Tells (x : List ℕ) (front : Front) : Type 0 where
@@ -67,13 +67,7 @@ word_front_tells first rest front letter h =
     let w = take n x in
     let found = cond_some (nat_le n longest_name) (record { kind = cond (is_name w) kind.Name kind.Keyword; length = n }) front h in
     let size : length w ≡ n = length-prefix_len is_name_byte x in
-    let begins : is_name_byte first ≡ true = letter_is_name_byte first letter in
-    let cut : w ≡ first ∷ take (prefix_len is_name_byte rest) rest = run_first is_name_byte first rest begins in
-    let all : list_all is_name_byte (first ∷ take (prefix_len is_name_byte rest) rest) ≡ true =
-    subst (λ (u : List ℕ). list_all is_name_byte u ≡ true) cut (run_all is_name_byte x) in
-    let word : is_word w ≡ true =
-    ap is_word cut ∙ and_from (is_letter first) (list_all is_name_byte (take (prefix_len is_name_byte rest) rest)) letter
-    (and_parts (is_name_byte first) (list_all is_name_byte (take (prefix_len is_name_byte rest) rest)) all).1 in
+    let word : is_word w ≡ true = run_is_word x letter in
     subst (λ (y : List ℕ). Tells y front) (take-append-drop n x)
     (word_tells w (drop n x) front word (ap (λ (k : ℕ). nat_le k longest_name) size ∙ found.0) (run_ends is_name_byte x)
     (sym (ap (λ (f : Front). f.kind) found.1)) (sym (ap (λ (f : Front). f.length) found.1) ∙ sym size))

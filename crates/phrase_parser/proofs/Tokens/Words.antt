@@ -1,11 +1,17 @@
 -- Words: their bytes, and which of them are keywords and which are names.
-use Rattle.std.proofs.Common.{◌≡◌, ℕ, ◌≤◌, Bool, true, false, not, List, [], ◌∷◌, length, refl, ap, ◌∙◌, inl, inr, arith}
+use Rattle.std.proofs.Common.{◌≡◌, ℕ, ◌≤◌, Bool, true, false, not, if◌then◌else◌, List, [], ◌∷◌, length, take, refl, sym, ap, ◌∙◌, subst, true≢false, inl, inr, arith, Option, Some}
 use Rattle.std.specs.Prelude.{nat_le, bytes_eq}
-use Rattle.std.specs.List.{list_all, list_any}
-use Rattle.std.proofs.lemmas.Bool.{and_parts, and_from, or_left, or_cases, leb-true}
+use Rattle.std.specs.List.{list_all, list_any, prefix_len}
+use Rattle.std.proofs.lemmas.Bool.{and_parts, and_from, or_left, or_cases, leb-true, le-leb}
+use Rattle.std.proofs.lemmas.List.Folds.{length-prefix_len}
 use Rattle.std.proofs.lemmas.Slice.Eq.{bytes_eq-Decides}
 use Rattle.plcs_base.specs.Byte.{is_letter, is_name_byte}
 use Rattle.plcs_base.specs.Name.{keywords, is_keyword, is_word, is_name, IsName, longest_name}
+use Rattle.plcs_grammar.specs.Token.{begins_with}
+use Rattle.phrase_parser.specs.declared.front.Front.{Front}
+use Rattle.phrase_parser.specs.declared.token.TokenKind.TheVariants as kind
+use Rattle.phrase_parser.specs.Private.Front.{word_front}
+use Rattle.phrase_parser.proofs.Tokens.ByteRuns.{run_all, run_first}
 
 -- a letter may follow in a name
 pub letter_is_name_byte : (byte : ℕ) → is_letter byte ≡ true → is_name_byte byte ≡ true
@@ -51,3 +57,43 @@ name_short w h =
 -- a short word that is no name is a keyword
 pub word_no_name : (w : List ℕ) → is_word w ≡ true → nat_le (length w) longest_name ≡ true → is_name w ≡ false → is_keyword w ≡ true
 word_no_name w word short h = grind (arith, word, short, h)
+
+-- the run of name bytes at the front of a text that begins with a letter is a word
+pub run_is_word : (x : List ℕ) → begins_with is_letter x ≡ true → is_word (take (prefix_len is_name_byte x) x) ≡ true
+run_is_word [] letter = absurd (true≢false (sym letter))
+run_is_word (first ∷ rest) letter =
+    let x = first ∷ rest in
+    let others = take (prefix_len is_name_byte rest) rest in
+    let begins : is_name_byte first ≡ true = letter_is_name_byte first letter in
+    let cut : take (prefix_len is_name_byte x) x ≡ first ∷ others = run_first is_name_byte first rest begins in
+    let all : list_all is_name_byte (first ∷ others) ≡ true =
+    subst (λ (u : List ℕ). list_all is_name_byte u ≡ true) cut (run_all is_name_byte x) in
+    ap is_word cut ∙ and_from (is_letter first) (list_all is_name_byte others) letter (and_parts (is_name_byte first) (list_all is_name_byte others) all).1
+
+-- a word that is short is a name where it is no keyword
+short_word : (w : List ℕ) (keyword : Bool) → is_word w ≡ true → length w ≤ longest_name → keyword ≡ is_keyword w → is_name w ≡ not keyword
+short_word w keyword word short same = rw (word, le-leb (length w) longest_name short, same) refl
+
+-- the word at the front of a text that begins with a letter is a name where it is no keyword
+pub word_kept : (x : List ℕ) (n : ℕ) (keyword : Bool) → begins_with is_letter x ≡ true → n ≡ prefix_len is_name_byte x → n ≤ longest_name
+    → keyword ≡ is_keyword (take n x)
+    → Some (record { kind = if keyword then kind.Keyword else kind.Name; length = n }) ≡ word_front x
+word_kept x n keyword letter counted short same =
+    subst (λ (k : ℕ). k ≤ longest_name → keyword ≡ is_keyword (take k x)
+    → Some (record { kind = if keyword then kind.Keyword else kind.Name; length = k }) ≡ word_front x)
+    (sym counted) kept short same
+  where
+    own : ℕ
+    own = prefix_len is_name_byte x
+
+    by_kind : (b : Bool) → (if b then kind.Keyword else kind.Name) ≡ (if not b then kind.Name else kind.Keyword)
+    by_kind true = refl
+    by_kind false = refl
+
+    kept : own ≤ longest_name → keyword ≡ is_keyword (take own x)
+        → Some (record { kind = if keyword then kind.Keyword else kind.Name; length = own }) ≡ word_front x
+    kept short same =
+        let named : is_name (take own x) ≡ not keyword =
+        short_word (take own x) keyword (run_is_word x letter) (omega (arith, length-prefix_len is_name_byte x, short)) same in
+        rw (le-leb own longest_name short, named)
+        (ap (λ k. let front : Option Front = Some (record { kind = k; length = own }) in front) (by_kind keyword))

@@ -182,9 +182,27 @@ pub fn phrase_of_stack(stack: ParseStack, expr: Expr) -> Result<Phrase, NotRead>
 pub const EVERY_LEVEL: u8 = 1;
 
 /// An operand, joined with each operator of the level or a higher one that is open on the stack, and what is left
-/// open.
-#[tactic(auto, using(crate::proofs::Frames::FrameStacks::stack_on_push))]
+/// open. Where nothing is open there is nothing to join, at once.
+#[inline(always)]
+#[tactic(auto, using(crate::proofs::Frames::FrameStacks::nothing_open))]
 pub fn reduced(
+    alloc: Global,
+    stack: ParseStack,
+    level: u8,
+    operand: Expr,
+) -> Result<(ParseStack, Expr), AllocError>
+    ensures { IfOk result (λ o. pair_of o ≡ reduced (stack_of stack) level (plain_expr operand)) }
+{
+    if stack.frames.is_empty() {
+        return Ok((stack, operand));
+    }
+    reduced_by_frames(alloc, stack, level, operand)
+}
+
+/// An operand, joined with one operator of the level or a higher one after the other that is open on the stack, and
+/// what is left open.
+#[tactic(auto, using(crate::proofs::Frames::FrameStacks::stack_on_push))]
+fn reduced_by_frames(
     alloc: Global,
     stack: ParseStack,
     level: u8,

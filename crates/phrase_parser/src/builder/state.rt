@@ -1,12 +1,13 @@
 //! The builder's state: what was read last and what is wanted, and what each token does to it.
 
 ghost use Rattle.phrase_parser.specs.Private.Machine.{start_state, shift, shift_operand, shift_name, shift_number, after_infix, shift_equal_role, shift_equal, shift_prefix, shift_infix, shift_operator, shift_sign, shift_open_after, shift_open_role, shift_open, shift_close_stack, shift_close, shift_comma_stack, shift_comma_role, shift_comma, phrase_of_stack, phrase_of_role, phrase_of};
-ghost use Rattle.phrase_parser.specs.Private.TokenIn.{IsPlacedIn, token_in};
+ghost use Rattle.phrase_parser.specs.Private.TokenIn.{IsConstant, IsPlacedIn, between_quotes, token_in};
+ghost use Rattle.phrase_parser.specs.Private.Unquoted.{undoubled};
 ghost use Rattle.phrase_parser.specs.Private.Views.{state_of, primary_of};
 ghost use Rattle.std.specs.Prelude.{◌≤◌};
 ghost use Rattle.phrase_parser.specs.NotRead.{Gives};
 ghost use Rattle.plcs_grammar.specs.Limit.{greatest_number};
-ghost use Rattle.plcs_grammar.specs.PlainPhrase.{plain_phrase};
+ghost use Rattle.plcs_grammar.specs.PlainPhrase.{PlainExpr, plain_phrase};
 
 use crate::builder::base::{Base, wanted_on};
 use crate::builder::lists::with_item;
@@ -88,12 +89,26 @@ pub fn shift(
     let bytes = &text[token.start..token.end];
     match token.kind {
         TokenKind::Name => shift_name(state, name_of(bytes)),
-        TokenKind::Keyword => Err(NotRead::Refused),
+        TokenKind::Keyword => {
+            let_go(state);
+            Err(NotRead::Refused)
+        }
         TokenKind::Number(n) => shift_number(state, n),
-        TokenKind::Text => shift_operand(state, constant(alloc, constant_value(bytes))?),
+        TokenKind::Text => shift_text(alloc, state, bytes),
         TokenKind::Bit(value) => shift_operand(state, Primary::Bit(value)),
         TokenKind::Sign(sign) => shift_sign(alloc, state, sign),
     }
+}
+
+/// The builder's state after the character constant that the bytes of a token are, if one can stand there. A function
+/// clears the room of all its values whenever it begins, so the value of a text has room in one of its own.
+#[inline(never)]
+fn shift_text(alloc: Global, state: ParseState, bytes: &[u8]) -> Result<ParseState, NotRead>
+    requires { IsConstant bytes.now }
+    ensures { Gives state_of result
+        (shift_operand (state_of state) (PlainExpr.text (undoubled (between_quotes bytes.now)))) }
+{
+    shift_operand(state, constant(alloc, constant_value(bytes))?)
 }
 
 /// The builder's state after a name, if one can stand there.
@@ -103,11 +118,15 @@ pub fn shift_name(state: ParseState, name: Name) -> Result<ParseState, NotRead>
     match state {
         ParseState::Wanted(stack) => Ok(ParseState::Had(stack, Primary::Name(name))),
         ParseState::NameWanted(role) => Ok(ParseState::NameHad(role, name)),
-        _ => Err(NotRead::Refused),
+        _ => {
+            let_go(state);
+            Err(NotRead::Refused)
+        }
     }
 }
 
 /// The builder's state after a number, if one can stand there.
+#[inline(never)]
 pub fn shift_number(state: ParseState, n: u32) -> Result<ParseState, NotRead>
     requires { n ≤ greatest_number }
     ensures { Gives state_of result (shift_number (state_of state) n) }
@@ -118,7 +137,10 @@ pub fn shift_number(state: ParseState, n: u32) -> Result<ParseState, NotRead>
         ParseState::LengthWanted if n >= 1 && n as usize <= LONGEST_TEXT => {
             Ok(ParseState::LengthHad(n as u16))
         }
-        _ => Err(NotRead::Refused),
+        _ => {
+            let_go(state);
+            Err(NotRead::Refused)
+        }
     }
 }
 
@@ -128,7 +150,10 @@ pub fn shift_operand(state: ParseState, primary: Primary) -> Result<ParseState, 
 {
     match state {
         ParseState::Wanted(stack) => Ok(ParseState::Had(stack, primary)),
-        _ => Err(NotRead::Refused),
+        _ => {
+            let_go(state);
+            Err(NotRead::Refused)
+        }
     }
 }
 
@@ -156,7 +181,10 @@ pub fn shift_open(alloc: Global, state: ParseState) -> Result<ParseState, NotRea
         )?)),
         ParseState::Had(stack, primary) => shift_open_after(alloc, stack, primary),
         ParseState::NameHad(role, name) => shift_open_role(alloc, role, name),
-        _ => Err(NotRead::Refused),
+        _ => {
+            let_go(state);
+            Err(NotRead::Refused)
+        }
     }
 }
 
@@ -172,7 +200,10 @@ pub fn shift_close(alloc: Global, state: ParseState) -> Result<ParseState, NotRe
         ParseState::SizeHad(done, name, size) => {
             Ok(ParseState::ItemHad(with_item(done, name, Some(size))?))
         }
-        _ => Err(NotRead::Refused),
+        _ => {
+            let_go(state);
+            Err(NotRead::Refused)
+        }
     }
 }
 
@@ -188,7 +219,10 @@ pub fn shift_comma(alloc: Global, state: ParseState) -> Result<ParseState, NotRe
         ParseState::NameHad(role, name) => shift_comma_role(role, name),
         ParseState::VariableHad(done) => Ok(ParseState::NameWanted(Role::Variables(done))),
         ParseState::ItemHad(done) => Ok(ParseState::NameWanted(Role::Items(done))),
-        _ => Err(NotRead::Refused),
+        _ => {
+            let_go(state);
+            Err(NotRead::Refused)
+        }
     }
 }
 
@@ -205,7 +239,10 @@ fn shift_equal(alloc: Global, state: ParseState) -> Result<ParseState, NotRead>
         }
         ParseState::NameHad(role, name) => shift_equal_role(alloc, role, name),
         ParseState::TargetHad(target) => Ok(wanted_on(alloc, Base::Assigned(target))),
-        _ => Err(NotRead::Refused),
+        _ => {
+            let_go(state);
+            Err(NotRead::Refused)
+        }
     }
 }
 
@@ -216,7 +253,10 @@ fn shift_operator(alloc: Global, state: ParseState, sign: Sign) -> Result<ParseS
     match state {
         ParseState::Wanted(stack) => shift_prefix(stack, prefix_of(sign)),
         ParseState::Had(stack, primary) => shift_infix(alloc, stack, primary, infix_of(sign)),
-        _ => Err(NotRead::Refused),
+        _ => {
+            let_go(state);
+            Err(NotRead::Refused)
+        }
     }
 }
 
@@ -234,6 +274,14 @@ pub fn phrase_of(alloc: Global, state: ParseState) -> Result<Phrase, NotRead>
         ParseState::CallHad(name, passed) => Ok(Phrase::CallRef(name, passed)),
         ParseState::ItemHad(done) => Ok(Phrase::DeclaredList(done)),
         ParseState::LengthHad(length) => Ok(Phrase::Length(length)),
-        _ => Err(NotRead::Refused),
+        _ => {
+            let_go(state);
+            Err(NotRead::Refused)
+        }
     }
 }
+
+/// Lets a state go behind which a token can't stand. A function clears the room of all its values whenever it begins,
+/// and letting a state go has a value for each part that it may have, so that is done in a function of its own.
+#[inline(never)]
+fn let_go(_state: ParseState) {}

@@ -15,7 +15,7 @@ pub fn name_of(bytes: &[u8]) -> Name
     requires { IsName bytes.now }
     ensures { result ≡ bytes.now }
 {
-    Name::read(bytes).unwrap()
+    Name::of(bytes)
 }
 
 /// The value of the character constant that the bytes of a token are.

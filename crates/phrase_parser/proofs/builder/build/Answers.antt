@@ -14,10 +14,8 @@ returns-in_err-state c =
     rw (p.1, p.2)
     (fails_behind _ (map (token_in c.args.text.now) c.args.tokens.now) (start_state c.args.category) c.in_err-state.ensures)
 
-pub returns-in_err-state-2 : goal.returns-in_err-state-2
-returns-in_err-state-2 c =
-    let p = err_from_is_err_and c.from_residual-in_err-state-2.result c.from_residual-in_err-state-2.ensures.1 in
-    rw (p.1, p.2)
-    (fails_at c.in_err-state-2.field-0.0 (token_in c.args.text.now) c.args.tokens.now c.loop-token.token-index
+pub returns-in-Err : goal.returns-in-Err
+returns-in-Err c =
+    fails_at c.in-Err.fault (token_in c.args.text.now) c.args.tokens.now c.loop-token.token-index
     (record { kind = Name; start = 0; end = 0 }) (state_of c.loop-token.state) (start_state c.args.category)
-    c.loop-token-test.true c.loop-token.invariant c.in_err-state-2.ensures)
+    c.loop-token-test.true c.loop-token.invariant c.in-Err.ensures

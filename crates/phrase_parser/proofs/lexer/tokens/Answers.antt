@@ -6,7 +6,7 @@ use Rattle.phrase_parser.proofs.lexer.tokens.Goals as goal
 
 pub loop-start-init : goal.loop-start-init
 loop-start-init c =
-    subst (λ (l : List Placed). CutSoFar c.args.text.now l c.behind_blanks-start.result) (sym c.new-placed.ensures.items)
+    subst (λ (l : List Placed). CutSoFar c.args.text.now l c.behind_blanks-start.result) (sym c.in_ok-placed.ensures.items)
     (nothing_cut c.args.text.now c.behind_blanks-start.result c.behind_blanks-start.ensures)
 
 pub returns-in_default : goal.returns-in_default

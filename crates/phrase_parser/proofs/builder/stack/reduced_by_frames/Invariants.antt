@@ -2,7 +2,7 @@ use Rattle.std.proofs.Common.{◌≡◌, length}
 use Rattle.plcs_grammar.specs.PlainPhrase.{plain_expr}
 use Rattle.phrase_parser.specs.Private.Machine as machine
 use Rattle.phrase_parser.specs.Private.Views.{base_of, stack_on, stack_of}
-use Rattle.phrase_parser.proofs.builder.stack.reduced.Given as goal
+use Rattle.phrase_parser.proofs.builder.stack.reduced_by_frames.Given as goal
 
 abbrev pub invariant-loop-frame : goal.invariant-loop-frame
 invariant-loop-frame l =
