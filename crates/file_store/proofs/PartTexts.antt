@@ -21,7 +21,7 @@ use Rattle.template_tree.specs.Listings.Line.{part_text, segments_text}
 use Rattle.template_tree.specs.Programs.Program.{IsPart, may_be_empty}
 use Rattle.file_store.specs.Private.Finds.{Finds, LacksUnless}
 use Rattle.file_store.specs.Private.LineLaws.{LineLaws}
-use Rattle.file_store.specs.Private.LineReading.{AreNoSegments, AreReadAfter, IsCut, IsLineFront, IsNoPart, IsPartText, IsSegmentsText, taken_off}
+use Rattle.file_store.specs.Private.LineReading.{AreNoSegments, AreReadAfter, IsCut, IsFrontAfter, IsNoPart, IsPartAfter, IsPartText, IsSegmentsText, left_if, taken_off}
 use Rattle.file_store.proofs.Fillings.{some_is}
 use Rattle.file_store.proofs.Heads.{line_part}
 use Rattle.file_store.proofs.Texts.{first_of_text}
@@ -46,6 +46,23 @@ pub puts_off : {Out : Type 0} (seen : Out → Option (List ℕ)) {before after :
     → PutsAll (λ a b c. seen c ≡ taken_off b (seen a)) before bytes after → seen after ≡ all_off bytes (seen before)
 puts_off seen puts_nothing = refl
 puts_off seen (puts_next {bytes = bytes} h rest) = puts_off seen rest ∙ ap (all_off bytes) h
+
+-- a byte that is put where it is the first of what is left, where another one is, and where nothing is left
+pub first_off : (same : Bool) (byte first : ℕ) (left rest : List ℕ) → left ≡ first ∷ rest → (first == byte) ≡ true
+    → left_if same rest ≡ taken_off byte (left_if same left)
+first_off false byte first left rest is e = refl
+first_off true byte first left rest is e =
+    sym (ap (λ z. taken_off byte (Some z)) is ∙ ap (λ (b : Bool). if b then Some rest else None) e)
+
+pub other_off : (same : Bool) (byte first : ℕ) (left rest : List ℕ) → left ≡ first ∷ rest → (first == byte) ≡ false
+    → None ≡ taken_off byte (left_if same left)
+other_off false byte first left rest is e = refl
+other_off true byte first left rest is e =
+    sym (ap (λ z. taken_off byte (Some z)) is ∙ ap (λ (b : Bool). if b then Some rest else None) e)
+
+pub nothing_off : (same : Bool) (byte : ℕ) (left : List ℕ) → left ≡ [] → None ≡ taken_off byte (left_if same left)
+nothing_off false byte left is = refl
+nothing_off true byte left is = sym (ap (λ z. taken_off byte (Some z)) is)
 
 off_none : (x : List ℕ) → all_off x None ≡ None
 off_none [] = refl
@@ -109,7 +126,17 @@ own_part category x phrase well same short = (record { well_formed = well; short
 
 -- ---- the part at the front
 
-pub last_front : (category : Category) (w x text : List ℕ) (part : Option PlainPhrase) (segments : List PlainSegment) → segments ≡ PlainSegment.words w ∷ []
+-- a part is read at the front of a text for these segments: what is left for those that are left makes the whole, and
+-- nothing else does
+pub record IsLineFront (category : Category) (segments : List PlainSegment) (x : List ℕ) (part : Option PlainPhrase)
+    (later : List PlainSegment) (rest : List ℕ) : Type 0 where
+  pub whole : (parts : List (Option PlainPhrase)) → IsSegmentsText later rest parts →
+      IsSegmentsText (PlainSegment.part category ∷ segments) x (part ∷ parts)
+  pub only : AreNoSegments later rest → AreNoSegments (PlainSegment.part category ∷ segments) x
+  pub cut : IsCut later
+  pub fewer : length later ≤ length segments
+
+last_front : (category : Category) (w x text : List ℕ) (part : Option PlainPhrase) (segments : List PlainSegment) → segments ≡ PlainSegment.words w ∷ []
     → x ≡ text ++ w → IsPartText category text part → IsLineFront category segments x part [] []
 last_front category w x text part segments shape is h =
     subst (λ s. IsLineFront category s x part [] []) (sym shape)
@@ -148,7 +175,7 @@ divides : (category : Category) (w : List ℕ) (later : List PlainSegment) → (
 divides category w [] some h = absurd (some refl)
 divides category w (segment ∷ later) some h = h
 
-pub divided_front : LineLaws → (category : Category) (w x text rest : List ℕ) (part : Option PlainPhrase) (segments later : List PlainSegment)
+divided_front : LineLaws → (category : Category) (w x text rest : List ℕ) (part : Option PlainPhrase) (segments later : List PlainSegment)
     → segments ≡ PlainSegment.words w ∷ later → (later ≡ [] → ⊥) → IsCut (PlainSegment.part category ∷ segments)
     → cut_at w x ≡ Some (text, rest) → IsPartText category text part → IsLineFront category segments x part later rest
 divided_front laws category w x text rest part segments later shape some cut is h =
@@ -238,12 +265,50 @@ pub words_read : (w x rest : List ℕ) (segments later : List PlainSegment) (par
 words_read w x rest segments later parts all shape is h =
     subst (λ s. AreReadAfter s x parts all) (sym shape) (h.0, h.1, words_text w x rest later h.0 is h.2)
 
-pub part_read : (category : Category) (x rest : List ℕ) (part : Option PlainPhrase) (segments behind later : List PlainSegment) (parts next all : List (Option PlainPhrase))
-    → segments ≡ PlainSegment.part category ∷ behind → IsLineFront category behind x part later rest → next ≡ parts ++ (part ∷ [])
-    → AreReadAfter later rest next all → AreReadAfter segments x parts all
-part_read category x rest part segments behind later parts next all shape front pushed h =
-    subst (λ s. AreReadAfter s x parts all) (sym shape)
+part_read : (category : Category) (x rest : List ℕ) (part : Option PlainPhrase) (segments later : List PlainSegment) (parts next all : List (Option PlainPhrase))
+    → IsLineFront category segments x part later rest → next ≡ parts ++ (part ∷ []) → AreReadAfter later rest next all
+    → AreReadAfter (PlainSegment.part category ∷ segments) x parts all
+part_read category x rest part segments later parts next all front pushed h =
     (part ∷ h.0, h.1 ∙ ap (λ z. z ++ h.0) pushed ∙ append_assoc parts (part ∷ []) h.0, front.whole h.0 h.2)
+
+-- a part that is read at the front, behind others
+front_after : (category : Category) (x rest : List ℕ) (part : Option PlainPhrase) (segments later : List PlainSegment) (parts next : List (Option PlainPhrase))
+    → IsLineFront category segments x part later rest → next ≡ parts ++ (part ∷ []) → IsFrontAfter category segments x parts next later rest
+front_after category x rest part segments later parts next front pushed =
+    record {
+      whole = λ all h. part_read category x rest part segments later parts next all front pushed h;
+      only = front.only;
+      cut = front.cut;
+      fewer = front.fewer;
+    }
+
+pub part_pushed : (category : Category) (x : List ℕ) (part : Option PlainPhrase) (parts next : List (Option PlainPhrase)) → IsPartText category x part
+    → next ≡ parts ++ (part ∷ []) → IsPartAfter category x parts next
+part_pushed category x own parts next h is = record { part = own; pushed = is; read = h }
+
+pub last_after : (category : Category) (w x text : List ℕ) (parts next : List (Option PlainPhrase)) (segments : List PlainSegment)
+    → segments ≡ PlainSegment.words w ∷ [] → x ≡ text ++ w → IsPartAfter category text parts next → IsFrontAfter category segments x parts next [] []
+last_after category w x text parts next segments shape is h =
+    front_after category x [] h.part segments [] parts next (last_front category w x text h.part segments shape is h.read) h.pushed
+
+pub divided_after : LineLaws → (category : Category) (w x text rest : List ℕ) (parts next : List (Option PlainPhrase)) (segments later : List PlainSegment)
+    → segments ≡ PlainSegment.words w ∷ later → (later ≡ [] → ⊥) → IsCut (PlainSegment.part category ∷ segments)
+    → cut_at w x ≡ Some (text, rest) → IsPartAfter category text parts next → IsFrontAfter category segments x parts next later rest
+divided_after laws category w x text rest parts next segments later shape some cut is h =
+    front_after category x rest h.part segments later parts next
+    (divided_front laws category w x text rest h.part segments later shape some cut is h.read) h.pushed
+
+pub front_read : (category : Category) (x rest : List ℕ) (segments behind later : List PlainSegment) (parts next all : List (Option PlainPhrase))
+    → segments ≡ PlainSegment.part category ∷ behind → IsFrontAfter category behind x parts next later rest
+    → AreReadAfter later rest next all → AreReadAfter segments x parts all
+front_read category x rest segments behind later parts next all shape front h =
+    subst (λ s. AreReadAfter s x parts all) (sym shape) (front.whole all h)
+
+pub no_front_read : (category : Category) (x rest : List ℕ) (segments behind later : List PlainSegment) (parts next : List (Option PlainPhrase))
+    → segments ≡ PlainSegment.part category ∷ behind → IsFrontAfter category behind x parts next later rest
+    → AreNoSegments later rest → AreNoSegments segments x
+no_front_read category x rest segments behind later parts next shape front none =
+    subst (λ s. AreNoSegments s x) (sym shape) (front.only none)
 
 pub no_words_read : (w x rest : List ℕ) (segments later : List PlainSegment) → segments ≡ PlainSegment.words w ∷ later → x ≡ w ++ rest
     → AreNoSegments later rest → AreNoSegments segments x
@@ -261,9 +326,3 @@ pub other_first : (byte first : ℕ) (text words later others : List ℕ) → te
 other_first byte first text words later others is starts differ rest e =
     false≢true
     (sym differ ∙ eq-eqb byte first (ap (first_of_text byte) (sym is ∙ e ∙ ap (λ w. w ++ rest) starts)))
-
--- an empty text doesn't begin with words that aren't empty
-pub none_first : (first : ℕ) (text words others : List ℕ) → length text ≡ 0 → words ≡ first ∷ others
-    → (rest : List ℕ) → text ≢ words ++ rest
-none_first first text words others is starts rest e =
-    omega (arith, is, ap length (e ∙ ap (λ w. w ++ rest) starts))

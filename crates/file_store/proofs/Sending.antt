@@ -1,9 +1,10 @@
 -- Bytes that are passed on to files, one after the other.
-use Rattle.std.specs.Prelude.{◌≡◌, refl, ℕ, ◌≤◌, List, [], ◌∷◌, ◌++◌, Bool, true, false, take, drop, Option, Some, None, Result, Ok, Err, IsErrOf}
+use Rattle.std.specs.Prelude.{◌≡◌, refl, ℕ, ◌≤◌, ◌==◌, List, [], ◌∷◌, ◌++◌, length, Bool, true, false, take, drop, Option, Some, None, Result, Ok, Err, IsErrOf}
 use Rattle.std.specs.Io.KnownBytes.{Appends, IsAtEnd, append_known}
 use Rattle.std.proofs.Common.{ap, sym, ◌∙◌, ◌⊎◌, arith, append_assoc, inl, inr, subst}
+use Rattle.std.proofs.lemmas.Bool.{eqb-true}
 use Rattle.std.proofs.lemmas.List.{append-nil, take-append-drop}
-use Rattle.std.proofs.Math.Bool.{false≢true}
+use Rattle.std.proofs.Math.Bool.{false≢true, true≢false}
 use Rattle.std.proofs.lemmas.Option.{none-some}
 use Rattle.plcs_base.specs.Count.{Rose, raised}
 use Rattle.plcs_base.specs.Put.{PutsAll, puts_nothing, puts_next}
@@ -94,9 +95,9 @@ all_sent puts desk each {before = before} {after = after} (puts_next {between = 
 rises_to : (A B : Type 0) (a b : ℕ) → (B → A) → (A → B) → RisesWith A a b → RisesWith B a b
 rises_to A B a b f g h = record { later = h.later; rose = λ k. h.rose (f k); same = λ k. h.same (λ j. k (g j)); last = h.last }
 
--- a byte waits
-pub waits : (d : Desk) (byte : ℕ) → Sent d (byte ∷ []) (record d { wait = d.wait ++ (byte ∷ []) })
-waits d byte =
+-- bytes wait
+pub waits : (d : Desk) (bytes : List ℕ) → Sent d bytes (record d { wait = d.wait ++ bytes })
+waits d bytes =
     record {
       stored = refl;
       name = refl;
@@ -108,9 +109,64 @@ waits d byte =
       wants = rises_same _ d.told.wants (λ h. none-some FilesFault.OutOfMemory (sym h.0 ∙ h.1));
     }
   where
-    go : (o : Option (List ℕ)) → Appends (append_known o d.wait) (append_known o (d.wait ++ (byte ∷ []))) (byte ∷ [])
+    go : (o : Option (List ℕ)) → Appends (append_known o d.wait) (append_known o (d.wait ++ bytes)) bytes
     go None = tt
-    go (Some x) = sym (append_assoc x d.wait (byte ∷ []))
+    go (Some x) = sym (append_assoc x d.wait bytes)
+
+-- bytes that were sent behind another one are sent once that waits
+sent_behind : (a c : Desk) (byte : ℕ) (bytes : List ℕ) → Sent a (byte ∷ bytes) c → Sent (record a { wait = a.wait ++ (byte ∷ []) }) bytes c
+sent_behind a c byte bytes h =
+    record {
+      stored = h.stored;
+      name = h.name;
+      unfailed = h.unfailed;
+      told = λ e. go (begun_bytes a.begun) (with_wait c) (h.told e);
+      kept = h.kept;
+      found = h.found;
+      faults = h.faults;
+      wants = h.wants;
+    }
+  where
+    go : (o now : Option (List ℕ)) → Appends (append_known o a.wait) now (byte ∷ bytes)
+        → Appends (append_known o (a.wait ++ (byte ∷ []))) now bytes
+    go None now e = tt
+    go (Some x) None e = absurd e
+    go (Some x) (Some y) e =
+        e ∙ sym (append_assoc (x ++ a.wait) (byte ∷ []) bytes) ∙ ap (λ z. z ++ bytes) (append_assoc x a.wait (byte ∷ []))
+
+-- bytes that were sent at once are put one after the other: each but the last waits
+puts_in_turn : {Out Name : Type 0} (seen : Out → Desk) (name : Out → Name) (with_one : Out → ℕ → Out)
+    → ((out : Out) (byte : ℕ) → seen (with_one out byte) ≡ record (seen out) { wait = (seen out).wait ++ (byte ∷ []) })
+    → ((out : Out) (byte : ℕ) → name (with_one out byte) ≡ name out)
+    → (before after : Out) (byte : ℕ) (bytes : List ℕ) → Sent (seen before) (byte ∷ bytes) (seen after) → name after ≡ name before
+    → PutsAll (λ a b c. Sent (seen a) (b ∷ []) (seen c) × (name c ≡ name a)) before (byte ∷ bytes) after
+puts_in_turn seen name with_one one same before after byte [] h e = puts_next (h, e) puts_nothing
+puts_in_turn seen name with_one one same before after byte (next ∷ bytes) h e =
+    puts_next
+    (subst (λ d. Sent (seen before) (byte ∷ []) d) (sym (one before byte)) (waits (seen before) (byte ∷ [])), same before byte)
+    (puts_in_turn seen name with_one one same (with_one before byte) after next bytes
+    (subst (λ d. Sent d (next ∷ bytes) (seen after)) (sym (one before byte)) (sent_behind (seen before) (seen after) byte (next ∷ bytes) h))
+    (e ∙ sym (same before byte)))
+
+-- so are bytes of which there are some
+pub puts_at_once : {Out Name : Type 0} (seen : Out → Desk) (name : Out → Name) (with_one : Out → ℕ → Out)
+    → ((out : Out) (byte : ℕ) → seen (with_one out byte) ≡ record (seen out) { wait = (seen out).wait ++ (byte ∷ []) })
+    → ((out : Out) (byte : ℕ) → name (with_one out byte) ≡ name out)
+    → (before after : Out) (bytes : List ℕ) → (length bytes == 0) ≡ false → Sent (seen before) bytes (seen after) → name after ≡ name before
+    → PutsAll (λ a b c. Sent (seen a) (b ∷ []) (seen c) × (name c ≡ name a)) before bytes after
+puts_at_once seen name with_one one same before after [] some h e = absurd (true≢false some)
+puts_at_once seen name with_one one same before after (byte ∷ bytes) some h e =
+    puts_in_turn seen name with_one one same before after byte bytes h e
+
+-- no bytes are put where there are none
+pub puts_none : {Out : Type 0} (puts : Out → ℕ → Out → Type 0) (out : Out) (bytes : List ℕ) → (length bytes == 0) ≡ true → PutsAll puts out bytes out
+puts_none puts out [] none = puts_nothing
+puts_none puts out (byte ∷ bytes) none = absurd (let no : ⊥ = omega (arith, eqb-true (length (byte ∷ bytes)) 0 none) in no)
+
+-- bytes are sent in two parts, once what waits was passed on
+pub sent_in_parts : (a b c d : Desk) (bytes front later : List ℕ) → bytes ≡ front ++ later → Sent a [] b → Sent b front c → Sent c later d → Sent a bytes d
+sent_in_parts a b c d bytes front later is f g h =
+    subst (λ z. Sent a z d) (sym is) (sent_more a b d [] (front ++ later) f (sent_more b c d front later g h))
 
 passed_bytes : (a b : Option (List ℕ)) (wait : List ℕ) → Appends a b wait → Appends (append_known a wait) (append_known b []) []
 passed_bytes None b wait h = tt

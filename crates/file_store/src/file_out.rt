@@ -1,5 +1,5 @@
 //! A sink that passes bytes on to a file that is begun.
-ghost use Rattle.std.specs.Prelude.{◌≡◌, ◌≢◌, ◌<◌, ◌∷◌, [], Err, IsSome, None, OnOk, length};
+ghost use Rattle.std.specs.Prelude.{◌≡◌, ◌≢◌, ◌<◌, ◌≤◌, ◌+◌, ◌∷◌, ◌++◌, [], Err, IsSome, None, OnOk, length};
 ghost use Rattle.std.specs.Io.KnownBytes.{Appends};
 ghost use Rattle.synth_outside.specs.Files.{LeavesMap, begun_bytes, begun_name};
 ghost use Rattle.synth_outside.specs.declared.faults.FilesFault.TheVariants.{NoFile};
@@ -35,6 +35,13 @@ impl<'a, F: Files> ByteOut for FileOut<'a, F> {
         self.make_room();
         self.wait.push(byte);
     }
+
+    fn put_all(&mut self, bytes: &[u8]) {
+        if bytes.is_empty() {
+            return;
+        }
+        self.take(bytes);
+    }
 }
 
 impl<'a, F: Files> FileOut<'a, F> {
@@ -63,6 +70,54 @@ impl<'a, F: Files> FileOut<'a, F> {
         ensures files { self.new.files.ghost_name ≡ self.old.files.ghost_name }
     {
         tree.put_listing(self);
+    }
+
+    /// Takes bytes into the sink, where they wait until they are passed on.
+    fn take(&mut self, bytes: &[u8])
+        ensures sent { Sent
+            (desk (F.told self.old.files.now) (F.begun self.old.files.now) self.old.wait.items self.old.fault)
+            bytes.now
+            (desk (F.told self.new.files.now) (F.begun self.new.files.now) self.new.wait.items self.new.fault) }
+        ensures files { self.new.files.ghost_name ≡ self.old.files.ghost_name }
+    {
+        if bytes.len() <= MOST_WAITING - self.wait.len() {
+            self.hold(bytes);
+        } else {
+            self.take_anew(bytes);
+        }
+    }
+
+    /// Passes on the bytes that wait, and takes others into the sink, so many at a time as may wait.
+    fn take_anew(&mut self, bytes: &[u8])
+        ensures sent { Sent
+            (desk (F.told self.old.files.now) (F.begun self.old.files.now) self.old.wait.items self.old.fault)
+            bytes.now
+            (desk (F.told self.new.files.now) (F.begun self.new.files.now) self.new.wait.items self.new.fault) }
+        ensures files { self.new.files.ghost_name ≡ self.old.files.ghost_name }
+    {
+        self.flush();
+        if bytes.len() <= MOST_WAITING {
+            self.hold(bytes);
+        } else {
+            let (front, later) = bytes.split_at(MOST_WAITING);
+            self.hold(front);
+            self.take_anew(later);
+        }
+    }
+
+    /// Has the bytes wait in the sink, which has room for them.
+    fn hold(&mut self, bytes: &[u8])
+        requires room { length self.old.wait.items + length bytes.now ≤ 512 }
+        ensures sent { Sent
+            (desk (F.told self.old.files.now) (F.begun self.old.files.now) self.old.wait.items self.old.fault)
+            bytes.now
+            (desk (F.told self.new.files.now) (F.begun self.new.files.now) self.new.wait.items self.new.fault) }
+        ensures held { self.new.wait.items ≡ self.old.wait.items ++ bytes.now }
+        ensures files { self.new.files.ghost_name ≡ self.old.files.ghost_name }
+    {
+        let Ok(()) = self.wait.try_extend_from_slice(bytes) else {
+            unreachable!()
+        };
     }
 
     /// Makes room in the sink for one more byte that waits.

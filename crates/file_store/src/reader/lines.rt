@@ -4,14 +4,14 @@ ghost use Rattle.std.specs.Bool.{Decides};
 ghost use Rattle.plcs_grammar.specs.Template.{row_of};
 ghost use Rattle.template_tree.specs.Programs.PlainPhrasePlace.{plain_phrase_place};
 ghost use Rattle.file_store.specs.Private.Finds.{Finds};
-ghost use Rattle.file_store.specs.Private.LineReading.{AreNoSegments, IsSegmentsText, OfEach, Says, SaysNothing, blank_bytes};
+ghost use Rattle.file_store.specs.Private.LineReading.{AreNoSegments, IsSegmentsText, OfEach, Says, SaysNothing, blank_bytes, from_byte, shapes};
 ghost use Rattle.file_store.specs.Private.Reader as machine;
 ghost use Rattle.file_store.specs.Private.Reader.{IsSaying, shape, text_of};
 ghost use Rattle.file_store.specs.Private.Views.{said_of, saying_of};
 
 use crate::line_laws::line_laws;
 use crate::reader::filling::{LAST, LEAD};
-use crate::reader::parts::{behind, may_begin, read_segments};
+use crate::reader::parts::{behind, read_segments};
 use crate::reader::said::{Said, Saying};
 use phrase_parser::NotRead;
 use plcs_grammar::{NodeKind, Template};
@@ -56,7 +56,7 @@ fn read_saying(alloc: Global, text: &[u8]) -> Result<Saying, NotRead>
     if is_same(text, LAST) {
         return Ok(Saying::Last);
     }
-    read_head(alloc, &SHAPES, text)
+    read_head(alloc, shapes_for(text), text)
 }
 
 /// Whether the text of a whole line is this one.
@@ -72,7 +72,7 @@ fn read_head(alloc: Global, kinds: &[NodeKind], text: &[u8]) -> Result<Saying, N
     ensures { Finds (λ saying. IsSaying (saying_of saying) × (text_of (saying_of saying) ≡ text.now))
         (OfEach (λ kind. AreNoSegments (row_of kind).line text.now) kinds.now) result }
 {
-    let Some((kind, others)) = kinds_for(kinds, text).split_first() else {
+    let Some((kind, others)) = kinds.split_first() else {
         return Err(NotRead::Refused);
     };
     match read_parts(alloc, *kind, text) {
@@ -82,42 +82,55 @@ fn read_head(alloc: Global, kinds: &[NodeKind], text: &[u8]) -> Result<Saying, N
     }
 }
 
-/// These kinds from the first on whose first line a whole line may be, as far as its first byte tells.
-fn kinds_for<'a>(kinds: &'a [NodeKind], text: &[u8]) -> &'a [NodeKind]
-    requires shapes { OfEach (λ kind. shape kind ≡ kind) kinds.now }
-    ensures shapes { OfEach (λ kind. shape kind ≡ kind) result.now }
-    ensures others { OfEach (λ kind. AreNoSegments (row_of kind).line text.now) result.now
-        → OfEach (λ kind. AreNoSegments (row_of kind).line text.now) kinds.now }
-    ensures fewer { length result.now ≤ length kinds.now }
-{
-    let mut left = kinds;
-    while let Some((kind, others)) = left.split_first() {
-        if may_begin(kind.row().line, text) {
-            return left;
-        }
-        left = others;
-    }
-    left
-}
-
 /// Reads a whole line of a listing as the first line of a node of the kind, if it is one: what stands in its
 /// parts.
 fn read_parts(alloc: Global, kind: NodeKind, text: &[u8]) -> Result<Vec<PhrasePlace>, NotRead>
     ensures { Finds (λ parts. IsSegmentsText (row_of kind).line text.now (map plain_phrase_place parts.items))
         (AreNoSegments (row_of kind).line text.now) result }
 {
-    read_segments(alloc, kind.row().line, text, Vec::new(alloc))
+    let mut parts = Vec::new(alloc);
+    read_segments(alloc, kind.row().line, text, &mut parts)?;
+    Ok(parts)
 }
 
-/// The kinds of nodes as their first lines tell them, those first whose lines begin with words.
+/// The kinds of nodes whose first line a whole line may be, as far as its first byte tells.
+fn shapes_for(text: &[u8]) -> &'static [NodeKind]
+    ensures shapes { OfEach (λ kind. shape kind ≡ kind) result.now }
+    ensures others { OfEach (λ kind. AreNoSegments (row_of kind).line text.now) result.now
+        → (kind : NodeKind) → shape kind ≡ kind → AreNoSegments (row_of kind).line text.now }
+{
+    match text.split_first() {
+        Some((byte, _)) => shapes_from(*byte),
+        None => &SHAPES,
+    }
+}
+
+/// The kinds of nodes whose first line a whole line may be that begins with the byte: those whose line begins with it,
+/// and then those whose line begins with a part.
+fn shapes_from(byte: u8) -> &'static [NodeKind]
+    ensures { result.now ≡ from_byte byte shapes }
+{
+    match byte {
+        b'{' => &FROM_BRACE,
+        b'm' => &FROM_M,
+        b'D' => &FROM_D,
+        b'I' => &FROM_I,
+        b'G' => &FROM_G,
+        b'P' => &FROM_P,
+        b'C' => &FROM_C,
+        b'R' => &FROM_R,
+        b'/' => &FROM_SLASH,
+        _ => &NAMED,
+    }
+}
+
+/// The kinds of nodes as their first lines tell them, those first whose lines begin with words. What is found more
+/// often comes first, so that fewer are tried.
 pub(crate) const SHAPES: [NodeKind; 20] = [
     NodeKind::StatementHole,
     NodeKind::DeclarationHole,
     NodeKind::ProcedureHole,
     NodeKind::Main,
-    NodeKind::Filled(Template::Fixed),
-    NodeKind::Filled(Template::Bit),
-    NodeKind::Filled(Template::Char),
     NodeKind::Filled(Template::IfElse),
     NodeKind::Filled(Template::While),
     NodeKind::Filled(Template::Group),
@@ -128,7 +141,97 @@ pub(crate) const SHAPES: [NodeKind; 20] = [
     NodeKind::Filled(Template::Call),
     NodeKind::Filled(Template::Return),
     NodeKind::Filled(Template::Comment),
+    NodeKind::Filled(Template::Fixed),
+    NodeKind::Filled(Template::Bit),
+    NodeKind::Filled(Template::Char),
+    NodeKind::Assign,
     NodeKind::Filled(Template::ProcP),
     NodeKind::Filled(Template::Proc),
+];
+
+/// The kinds of nodes whose first lines begin with a part, so whatever the first byte of a line is.
+const NAMED: [NodeKind; 3] = [
     NodeKind::Assign,
+    NodeKind::Filled(Template::ProcP),
+    NodeKind::Filled(Template::Proc),
+];
+
+/// The kinds of nodes whose first lines may begin with `{`, as those of holes do.
+const FROM_BRACE: [NodeKind; 6] = [
+    NodeKind::StatementHole,
+    NodeKind::DeclarationHole,
+    NodeKind::ProcedureHole,
+    NodeKind::Assign,
+    NodeKind::Filled(Template::ProcP),
+    NodeKind::Filled(Template::Proc),
+];
+
+/// The kinds of nodes whose first lines may begin with `m`.
+const FROM_M: [NodeKind; 4] = [
+    NodeKind::Main,
+    NodeKind::Assign,
+    NodeKind::Filled(Template::ProcP),
+    NodeKind::Filled(Template::Proc),
+];
+
+/// The kinds of nodes whose first lines may begin with `D`.
+const FROM_D: [NodeKind; 9] = [
+    NodeKind::Filled(Template::While),
+    NodeKind::Filled(Template::Group),
+    NodeKind::Filled(Template::For),
+    NodeKind::Filled(Template::Fixed),
+    NodeKind::Filled(Template::Bit),
+    NodeKind::Filled(Template::Char),
+    NodeKind::Assign,
+    NodeKind::Filled(Template::ProcP),
+    NodeKind::Filled(Template::Proc),
+];
+
+/// The kinds of nodes whose first lines may begin with `I`.
+const FROM_I: [NodeKind; 4] = [
+    NodeKind::Filled(Template::IfElse),
+    NodeKind::Assign,
+    NodeKind::Filled(Template::ProcP),
+    NodeKind::Filled(Template::Proc),
+];
+
+/// The kinds of nodes whose first lines may begin with `G`.
+const FROM_G: [NodeKind; 4] = [
+    NodeKind::Filled(Template::Get),
+    NodeKind::Assign,
+    NodeKind::Filled(Template::ProcP),
+    NodeKind::Filled(Template::Proc),
+];
+
+/// The kinds of nodes whose first lines may begin with `P`.
+const FROM_P: [NodeKind; 5] = [
+    NodeKind::Filled(Template::Put),
+    NodeKind::Filled(Template::PutSkip),
+    NodeKind::Assign,
+    NodeKind::Filled(Template::ProcP),
+    NodeKind::Filled(Template::Proc),
+];
+
+/// The kinds of nodes whose first lines may begin with `C`.
+const FROM_C: [NodeKind; 4] = [
+    NodeKind::Filled(Template::Call),
+    NodeKind::Assign,
+    NodeKind::Filled(Template::ProcP),
+    NodeKind::Filled(Template::Proc),
+];
+
+/// The kinds of nodes whose first lines may begin with `R`.
+const FROM_R: [NodeKind; 4] = [
+    NodeKind::Filled(Template::Return),
+    NodeKind::Assign,
+    NodeKind::Filled(Template::ProcP),
+    NodeKind::Filled(Template::Proc),
+];
+
+/// The kinds of nodes whose first lines may begin with `/`.
+const FROM_SLASH: [NodeKind; 4] = [
+    NodeKind::Filled(Template::Comment),
+    NodeKind::Assign,
+    NodeKind::Filled(Template::ProcP),
+    NodeKind::Filled(Template::Proc),
 ];

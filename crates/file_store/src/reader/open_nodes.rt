@@ -87,8 +87,21 @@ fn lowered_to(stack: OpenNodes, level: usize) -> Result<OpenNodes, NotRead>
     Ok(stack)
 }
 
-/// The open lists once nodes have ended until no more than so many are open, if they may.
+/// The open lists once nodes have ended until no more than so many are open, if they may. Where no more are open they
+/// stay as they are, at once.
+#[inline(always)]
 fn lowered(stack: OpenNodes, level: usize) -> Result<OpenNodes, NotRead>
+    ensures { Gives open_nodes_of result (lowered level (open_nodes_of stack).own (open_nodes_of stack).outer) }
+{
+    if stack.frames.len() <= level {
+        return Ok(stack);
+    }
+    lowered_by_ends(stack, level)
+}
+
+/// The open lists once the innermost nodes have ended, one after the other, until no more than so many are open, if
+/// they may.
+fn lowered_by_ends(stack: OpenNodes, level: usize) -> Result<OpenNodes, NotRead>
     ensures { Gives open_nodes_of result (lowered level (open_nodes_of stack).own (open_nodes_of stack).outer) }
 {
     let OpenNodes { own, frames } = stack;

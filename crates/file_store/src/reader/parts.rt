@@ -1,5 +1,5 @@
 //! The parts of a line that is read, each a phrase or a placeholder, and where they end.
-ghost use Rattle.std.specs.Prelude.{◌≡◌, ◌≢◌, ◌&&◌, ◌∷◌, ◌++◌, ℕ, List, [], false, MatchOption, Option, bytes_eq, length, map, option_map};
+ghost use Rattle.std.specs.Prelude.{◌≡◌, ◌≢◌, ◌&&◌, ◌∷◌, ◌++◌, ℕ, List, [], false, MatchOption, Option, bytes_eq, length, map};
 ghost use Rattle.std.specs.Bool.{Decides};
 ghost use Rattle.plcs_grammar.specs.Canon.{Canon};
 ghost use Rattle.plcs_grammar.specs.Placeholder.{placeholder};
@@ -9,7 +9,7 @@ ghost use Rattle.template_tree.specs.Programs.PlainPhrasePlace.{plain_phrase_pla
 ghost use Rattle.template_tree.specs.Programs.Program.{may_be_empty};
 ghost use Rattle.file_store.specs.Private.Finds.{Finds};
 ghost use Rattle.file_store.specs.Private.NextSegment.{IsNext};
-ghost use Rattle.file_store.specs.Private.LineReading.{AreNoSegments, AreReadAfter, IsCut, IsLineFront, IsNoPart, IsPartText, IsSegmentsText, taken_off};
+ghost use Rattle.file_store.specs.Private.LineReading.{AreNoSegments, AreReadAfter, IsCut, IsFrontAfter, IsNoPart, IsPartAfter, IsPartText, IsSegmentsText, left_if, taken_off};
 
 use crate::line_laws::line_laws;
 use phrase_parser::{NotRead, PhraseFault, cut_at, parse};
@@ -18,20 +18,20 @@ use plcs_grammar::{Category, Phrase, Segment, show};
 use std::alloc::Global;
 use template_tree::{LONGEST_PHRASE, PhrasePlace};
 
-/// The parts of a line with these segments, behind parts that were read before, if the text is such a line.
+/// Reads the parts of a line with these segments behind parts that were read before, if the text is such a line.
 pub(crate) fn read_segments(
     alloc: Global,
     segments: &[Segment],
     text: &[u8],
-    parts: Vec<PhrasePlace>,
-) -> Result<Vec<PhrasePlace>, NotRead>
+    parts: &mut Vec<PhrasePlace>,
+) -> Result<(), NotRead>
     requires cut { IsCut (map plain_segment segments.now) }
-    ensures { Finds (λ all. AreReadAfter (map plain_segment segments.now) text.now
-        (map plain_phrase_place parts.items) (map plain_phrase_place all.items))
+    ensures { Finds (λ _. AreReadAfter (map plain_segment segments.now) text.now
+        (map plain_phrase_place parts.old.items) (map plain_phrase_place parts.new.items))
         (AreNoSegments (map plain_segment segments.now) text.now) result }
 {
     match next_segment(segments) {
-        Next::End => nothing_more(text, parts),
+        Next::End => nothing_more(text),
         Next::Words(words, later) => {
             let Some(rest) = behind(text, words) else {
                 return Err(NotRead::Refused);
@@ -39,10 +39,8 @@ pub(crate) fn read_segments(
             read_segments(alloc, later, rest, parts)
         }
         Next::Part(category, later) => {
-            let Front { place, later, rest } = read_front(alloc, category, later, text)?;
-            let mut parts = parts;
-            parts.push(place)?;
-            read_segments(alloc, later, rest, parts)
+            let front = read_front(alloc, category, later, text, parts)?;
+            read_segments(alloc, front.later, front.rest, parts)
         }
     }
 }
@@ -71,37 +69,12 @@ fn next_segment(segments: &[Segment]) -> Next
     }
 }
 
-/// Whether the text of a line may have these segments, as far as its first byte tells.
-#[tactic(auto, using(crate::proofs::PartTexts::other_words))]
-pub(crate) fn may_begin(segments: &[Segment], text: &[u8]) -> bool
-    ensures { result ≡ false → AreNoSegments (map plain_segment segments.now) text.now }
-{
-    match next_segment(segments) {
-        Next::Words(words, _) => begins_alike(text, words),
-        _ => true,
-    }
-}
-
-/// Whether the text of a line begins with the first byte of the words, if they have one.
-#[tactic(auto, using(crate::proofs::PartTexts::other_first, crate::proofs::PartTexts::none_first))]
-fn begins_alike(text: &[u8], words: &[u8]) -> bool
-    ensures { result ≡ false → (rest : List ℕ) → text.now ≢ words.now ++ rest }
-{
-    let Some((first, _)) = words.split_first() else {
-        return true;
-    };
-    let Some((byte, _)) = text.split_first() else {
-        return false;
-    };
-    byte == first
-}
-
-/// The parts that were read of a line, if its text is at its end.
-fn nothing_more(text: &[u8], parts: Vec<PhrasePlace>) -> Result<Vec<PhrasePlace>, NotRead>
-    ensures { Finds (λ all. (text.now ≡ []) × (all ≡ parts)) (text.now ≢ []) result }
+/// Reads nothing more of a line whose parts are read, if its text is at its end.
+fn nothing_more(text: &[u8]) -> Result<(), NotRead>
+    ensures { Finds (λ _. text.now ≡ []) (text.now ≢ []) result }
 {
     if is_empty(text) {
-        return Ok(parts);
+        return Ok(());
     }
     Err(NotRead::Refused)
 }
@@ -113,24 +86,26 @@ fn is_empty<T>(items: &[T]) -> bool
     matches!(items, [])
 }
 
-/// A part that was read at the front of a text, and what is left behind it and the words that end it.
-#[derive(Drop)]
+/// What is left of a line once a part was read at the front of its text: behind that, and behind the words that end it.
+#[derive(Clone, Copy)]
 struct Front<'a, 'b> {
-    place: PhrasePlace,
     later: &'b [Segment],
     rest: &'a [u8],
 }
 
-/// The part at the front of the text, which ends where the first of these segments begins.
+/// Reads the part at the front of the text, which ends where the first of these segments begins, behind parts that were
+/// read before.
 fn read_front<'a, 'b>(
     alloc: Global,
     category: Category,
     segments: &'b [Segment],
     text: &'a [u8],
+    parts: &mut Vec<PhrasePlace>,
 ) -> Result<Front<'a, 'b>, NotRead>
     requires cut { IsCut (PlainSegment.part category ∷ map plain_segment segments.now) }
     ensures { Finds
-        (λ front. IsLineFront category (map plain_segment segments.now) text.now (plain_phrase_place front.place)
+        (λ front. IsFrontAfter category (map plain_segment segments.now) text.now
+        (map plain_phrase_place parts.old.items) (map plain_phrase_place parts.new.items)
         (map plain_segment front.later.now) front.rest.now)
         (AreNoSegments (PlainSegment.part category ∷ map plain_segment segments.now) text.now) result }
 {
@@ -138,46 +113,44 @@ fn read_front<'a, 'b>(
         return Err(NotRead::Refused);
     };
     if !is_empty(later) {
-        return read_divided(alloc, category, words, later, text);
+        return read_divided(alloc, category, words, later, text, parts);
     }
-    let place = read_last(alloc, category, words, text)?;
-    Ok(Front {
-        place,
-        later,
-        rest: b"",
-    })
+    read_last(alloc, category, words, text, parts)?;
+    Ok(Front { later, rest: b"" })
 }
 
-/// Reads the part before the last words of a line.
+/// Reads the part before the last words of a line, behind parts that were read before.
 fn read_last(
     alloc: Global,
     category: Category,
     words: &[u8],
     text: &[u8],
-) -> Result<PhrasePlace, NotRead>
-    ensures { Finds (λ place. IsLineFront category (PlainSegment.words words.now ∷ []) text.now
-        (plain_phrase_place place) [] [])
+    parts: &mut Vec<PhrasePlace>,
+) -> Result<(), NotRead>
+    ensures { Finds (λ _. IsFrontAfter category (PlainSegment.words words.now ∷ []) text.now
+        (map plain_phrase_place parts.old.items) (map plain_phrase_place parts.new.items) [] [])
         (AreNoSegments (PlainSegment.part category ∷ (PlainSegment.words words.now ∷ [])) text.now) result }
 {
     let Some(part) = before(text, words) else {
         return Err(NotRead::Refused);
     };
-    read_part(alloc, category, part)
+    read_part(alloc, category, part, parts, 1)
 }
 
-/// Reads the part before words that divide it from what stands behind them.
+/// Reads the part before words that divide it from what stands behind them, behind parts that were read before.
 fn read_divided<'a, 'b>(
     alloc: Global,
     category: Category,
     words: &[u8],
     later: &'b [Segment],
     text: &'a [u8],
+    parts: &mut Vec<PhrasePlace>,
 ) -> Result<Front<'a, 'b>, NotRead>
     requires some { map plain_segment later.now ≢ [] }
     requires cut { IsCut (PlainSegment.part category ∷ (PlainSegment.words words.now ∷ map plain_segment later.now)) }
     ensures { Finds
-        (λ front. IsLineFront category (PlainSegment.words words.now ∷ map plain_segment later.now) text.now
-        (plain_phrase_place front.place)
+        (λ front. IsFrontAfter category (PlainSegment.words words.now ∷ map plain_segment later.now) text.now
+        (map plain_phrase_place parts.old.items) (map plain_phrase_place parts.new.items)
         (map plain_segment front.later.now) front.rest.now)
         (AreNoSegments (PlainSegment.part category ∷ (PlainSegment.words words.now ∷ map plain_segment later.now))
         text.now) result }
@@ -186,12 +159,30 @@ fn read_divided<'a, 'b>(
     let Some((part, rest)) = cut_at(text, words) else {
         return Err(NotRead::Refused);
     };
-    let place = read_part(alloc, category, part)?;
-    Ok(Front { place, later, rest })
+    read_part(alloc, category, part, parts, later.len() / 2 + 1)?;
+    Ok(Front { later, rest })
 }
 
-/// Reads a part of the category: its placeholder or a phrase, if the text is one.
-fn read_part(alloc: Global, category: Category, text: &[u8]) -> Result<PhrasePlace, NotRead>
+/// Reads a part of the category behind parts that were read before: its placeholder or a phrase, if the text is one. So
+/// many parts, this one among them, are still to come, and the room for them is taken at once.
+fn read_part(
+    alloc: Global,
+    category: Category,
+    text: &[u8],
+    parts: &mut Vec<PhrasePlace>,
+    count: usize,
+) -> Result<(), NotRead>
+    ensures { Finds (λ _. IsPartAfter category text.now (map plain_phrase_place parts.old.items)
+        (map plain_phrase_place parts.new.items)) (IsNoPart category text.now) result }
+{
+    let place = read_place(alloc, category, text)?;
+    parts.reserve_exact(count)?;
+    parts.push(place)?;
+    Ok(())
+}
+
+/// Reads what stands in a part of the category: its placeholder or a phrase, if the text is one.
+fn read_place(alloc: Global, category: Category, text: &[u8]) -> Result<PhrasePlace, NotRead>
     ensures { Finds (λ place. IsPartText category text.now (plain_phrase_place place))
         (IsNoPart category text.now) result }
 {
@@ -207,10 +198,17 @@ fn read_part(alloc: Global, category: Category, text: &[u8]) -> Result<PhrasePla
         Err(_) => return Err(NotRead::Refused),
     };
     if !is_shown_as(&phrase, text) {
+        let_go(phrase);
         return Err(NotRead::Refused);
     }
     Ok(PhrasePlace::Filled(phrase))
 }
+
+/// Lets a phrase go whose canonical text isn't that of its part. A function clears the room of all its values whenever
+/// it begins, and letting a phrase go has a value for each part that it may have, so that is done in a function of its
+/// own.
+#[inline(never)]
+fn let_go(_phrase: Phrase) {}
 
 /// Whether the text is the placeholder of a part that may be empty.
 fn is_placeholder(category: Category, text: &[u8]) -> bool
@@ -219,38 +217,39 @@ fn is_placeholder(category: Category, text: &[u8]) -> bool
     category != Category::Assignment && text == category.placeholder()
 }
 
-/// Whether the text of a part is the canonical text of the phrase that it was read as.
+/// Whether the text of a part is the canonical text of the phrase that it was read as: it is compared with each byte as
+/// that is put.
 fn is_shown_as(phrase: &Phrase, text: &[u8]) -> bool
     ensures { Decides result (Canon (plain_phrase phrase.now) ≡ text.now) }
 {
-    let mut out = Awaited { left: Some(text) };
+    let mut out = Awaited {
+        left: text,
+        same: true,
+    };
     show(phrase, &mut out);
-    match out.left {
-        Some(left) => is_empty(left),
-        None => false,
+    if out.same {
+        return is_empty(out.left);
     }
+    false
 }
 
-/// A sink that compares the canonical text that is put with the text of the part; where they differ,
-/// nothing is left.
+/// A sink that compares the canonical text that is put with the text of the part, of which this is left as long as they
+/// are the same.
 #[derive(Drop)]
 struct Awaited<'a> {
-    left: Option<&'a [u8]>,
+    left: &'a [u8],
+    same: bool,
 }
 
 impl ByteOut for Awaited<'_> {
-    ghost puts = { λ before byte after. option_map (λ text. text.now) after.left ≡
-        taken_off byte (option_map (λ text. text.now) before.left) };
+    ghost puts = { λ before byte after. left_if after.same after.left.now ≡
+        taken_off byte (left_if before.same before.left.now) };
 
     fn put(&mut self, byte: u8) {
-        let Some(text) = self.left else {
-            return;
-        };
-        let Some((first, rest)) = text.split_first() else {
-            self.left = None;
-            return;
-        };
-        self.left = if *first == byte { Some(rest) } else { None };
+        match self.left.split_first() {
+            Some((first, rest)) if *first == byte => self.left = rest,
+            _ => self.same = false,
+        }
     }
 }
 

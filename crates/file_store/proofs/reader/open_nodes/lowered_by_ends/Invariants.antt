@@ -1,7 +1,7 @@
 use Rattle.std.specs.Prelude.{◌≡◌, [], length}
 use Rattle.file_store.specs.Private.Reader.{lowered}
 use Rattle.file_store.specs.Private.Views.{open_nodes_on, open_list_of}
-use Rattle.file_store.proofs.reader.open_nodes.lowered.Given as goal
+use Rattle.file_store.proofs.reader.open_nodes.lowered_by_ends.Given as goal
 
 abbrev pub decreases-loop-frames : goal.decreases-loop-frames
 decreases-loop-frames l = length l.frames.items
