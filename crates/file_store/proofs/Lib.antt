@@ -38,3 +38,5 @@ pub mod LoadedFiles
 pub mod RoomlessListings
 -- `save`: bytes that are passed on to files, one after the other
 pub mod Sending
+-- `Waiting`: bytes that wait at the front of others
+pub mod WaitingBytes

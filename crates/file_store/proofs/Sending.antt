@@ -1,10 +1,9 @@
 -- Bytes that are passed on to files, one after the other.
-use Rattle.std.specs.Prelude.{◌≡◌, refl, ℕ, ◌≤◌, ◌==◌, List, [], ◌∷◌, ◌++◌, length, Bool, true, false, take, drop, Option, Some, None, Result, Ok, Err, IsErrOf}
+use Rattle.std.specs.Prelude.{◌≡◌, refl, ℕ, ◌+◌, ◌<◌, ◌≤◌, List, [], ◌∷◌, ◌++◌, length, replicate, Bool, true, false, take, drop, Option, Some, None, Result, Ok, Err, IsErrOf}
 use Rattle.std.specs.Io.KnownBytes.{Appends, IsAtEnd, append_known}
 use Rattle.std.proofs.Common.{ap, sym, ◌∙◌, ◌⊎◌, arith, append_assoc, inl, inr, subst}
-use Rattle.std.proofs.lemmas.Bool.{eqb-true}
-use Rattle.std.proofs.lemmas.List.{append-nil, take-append-drop}
-use Rattle.std.proofs.Math.Bool.{false≢true, true≢false}
+use Rattle.std.proofs.lemmas.List.{append-nil, replicate-append-replicate, take-append-drop}
+use Rattle.std.proofs.Math.Bool.{false≢true}
 use Rattle.std.proofs.lemmas.Option.{none-some}
 use Rattle.plcs_base.specs.Count.{Rose, raised}
 use Rattle.plcs_base.specs.Put.{PutsAll, puts_nothing, puts_next}
@@ -152,16 +151,41 @@ puts_in_turn seen name with_one one same before after byte (next ∷ bytes) h e 
 pub puts_at_once : {Out Name : Type 0} (seen : Out → Desk) (name : Out → Name) (with_one : Out → ℕ → Out)
     → ((out : Out) (byte : ℕ) → seen (with_one out byte) ≡ record (seen out) { wait = (seen out).wait ++ (byte ∷ []) })
     → ((out : Out) (byte : ℕ) → name (with_one out byte) ≡ name out)
-    → (before after : Out) (bytes : List ℕ) → (length bytes == 0) ≡ false → Sent (seen before) bytes (seen after) → name after ≡ name before
+    → (before after : Out) (bytes : List ℕ) → 0 < length bytes → Sent (seen before) bytes (seen after) → name after ≡ name before
     → PutsAll (λ a b c. Sent (seen a) (b ∷ []) (seen c) × (name c ≡ name a)) before bytes after
-puts_at_once seen name with_one one same before after [] some h e = absurd (true≢false some)
+puts_at_once seen name with_one one same before after [] some h e = absurd (omega (arith, some))
 puts_at_once seen name with_one one same before after (byte ∷ bytes) some h e =
     puts_in_turn seen name with_one one same before after byte bytes h e
 
--- no bytes are put where there are none
-pub puts_none : {Out : Type 0} (puts : Out → ℕ → Out → Type 0) (out : Out) (bytes : List ℕ) → (length bytes == 0) ≡ true → PutsAll puts out bytes out
-puts_none puts out [] none = puts_nothing
-puts_none puts out (byte ∷ bytes) none = absurd (let no : ⊥ = omega (arith, eqb-true (length (byte ∷ bytes)) 0 none) in no)
+puts_to_wait : {Out Name : Type 0} (seen : Out → Desk) (name : Out → Name) (with_wait : List ℕ → Out) (d : Desk) (own : Name)
+    → ((wait : List ℕ) → seen (with_wait wait) ≡ record d { wait = wait }) → ((wait : List ℕ) → name (with_wait wait) ≡ own)
+    → (wait bytes : List ℕ)
+    → PutsAll (λ a b c. Sent (seen a) (b ∷ []) (seen c) × (name c ≡ name a)) (with_wait wait) bytes (with_wait (wait ++ bytes))
+puts_to_wait seen name with_wait d own seen_is name_is wait [] =
+    subst (λ z. PutsAll (λ a b c. Sent (seen a) (b ∷ []) (seen c) × (name c ≡ name a)) (with_wait wait) [] (with_wait z))
+    (sym (append-nil wait)) puts_nothing
+puts_to_wait seen name with_wait d own seen_is name_is wait (byte ∷ bytes) =
+    let more = wait ++ (byte ∷ []) in
+    let one : Sent (seen (with_wait wait)) (byte ∷ []) (seen (with_wait more)) =
+    subst (λ z. Sent z (byte ∷ []) (seen (with_wait more))) (sym (seen_is wait))
+    (subst (λ z. Sent (record d { wait = wait }) (byte ∷ []) z) (sym (seen_is more)) (waits (record d { wait = wait }) (byte ∷ []))) in
+    puts_next (one, name_is more ∙ sym (name_is wait))
+    (subst (λ z. PutsAll (λ a b c. Sent (seen a) (b ∷ []) (seen c) × (name c ≡ name a)) (with_wait more) bytes (with_wait z))
+    (append_assoc wait (byte ∷ []) bytes) (puts_to_wait seen name with_wait d own seen_is name_is more bytes))
+
+-- bytes that only come to wait are put, however many, up to the last value, which may differ in what proves the rest of it
+pub puts_waiting : {Out Name : Type 0} (seen : Out → Desk) (name : Out → Name) (with_wait : List ℕ → Out) (d : Desk) (own : Name)
+    → ((wait : List ℕ) → seen (with_wait wait) ≡ record d { wait = wait }) → ((wait : List ℕ) → name (with_wait wait) ≡ own)
+    → (wait bytes after : List ℕ) (last : Out) → after ≡ wait ++ bytes → with_wait after ≡ last
+    → PutsAll (λ a b c. Sent (seen a) (b ∷ []) (seen c) × (name c ≡ name a)) (with_wait wait) bytes last
+puts_waiting seen name with_wait d own seen_is name_is wait bytes after last is last_is =
+    subst (λ z. PutsAll (λ a b c. Sent (seen a) (b ∷ []) (seen c) × (name c ≡ name a)) (with_wait wait) bytes z)
+    (ap with_wait (sym is) ∙ last_is) (puts_to_wait seen name with_wait d own seen_is name_is wait bytes)
+
+-- a byte that is sent once more
+pub sent_again : (a b c : Desk) (times byte : ℕ) → Sent a (replicate times byte) b → Sent b (byte ∷ []) c → Sent a (replicate (times + 1) byte) c
+sent_again a b c times byte h one =
+    subst (λ z. Sent a z c) (replicate-append-replicate times 1 byte) (sent_more a b c (replicate times byte) (byte ∷ []) h one)
 
 -- bytes are sent in two parts, once what waits was passed on
 pub sent_in_parts : (a b c d : Desk) (bytes front later : List ℕ) → bytes ≡ front ++ later → Sent a [] b → Sent b front c → Sent c later d → Sent a bytes d

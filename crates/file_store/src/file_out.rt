@@ -1,46 +1,56 @@
 //! A sink that passes bytes on to a file that is begun.
-ghost use Rattle.std.specs.Prelude.{◌≡◌, ◌≢◌, ◌<◌, ◌≤◌, ◌+◌, ◌∷◌, ◌++◌, [], Err, IsSome, None, OnOk, length};
+ghost use Rattle.std.specs.Prelude.{◌≡◌, ◌≢◌, ◌<◌, ◌≤◌, ◌+◌, ◌∷◌, ◌++◌, [], Err, IsSome, None, OnOk, length, replicate};
 ghost use Rattle.std.specs.Io.KnownBytes.{Appends};
 ghost use Rattle.synth_outside.specs.Files.{LeavesMap, begun_bytes, begun_name};
 ghost use Rattle.synth_outside.specs.declared.faults.FilesFault.TheVariants.{NoFile};
 ghost use Rattle.template_tree.specs.Listings.Listing.{Listing};
 ghost use Rattle.template_tree.specs.Programs.Tree.{IsTree};
 ghost use Rattle.file_store.specs.Private.Desk.{Sent, Written, desk};
+ghost use Rattle.file_store.specs.declared.waiting.TheConstants.{MOST_WAITING};
 
-use arrayvec::ArrayVec;
+use crate::waiting::{MOST_WAITING, Waiting};
 use plcs_base::ByteOut;
 use synth_outside::{Files, FilesFault};
 use template_tree::Tree;
-
-/// How many bytes wait until they are passed on.
-const MOST_WAITING: usize = 512;
 
 /// A sink that passes bytes on to the file that is begun. After a fault it drops them.
 #[derive(Drop)]
 pub(crate) struct FileOut<'a, F: Files> {
     pub(crate) files: &'a mut F,
-    pub(crate) wait: ArrayVec<u8, MOST_WAITING>,
+    pub(crate) wait: Waiting,
     pub(crate) fault: Option<FilesFault>,
     ghost begun: { IsSome (F.begun files.now) },
 }
 
 impl<'a, F: Files> ByteOut for FileOut<'a, F> {
     ghost puts = { λ a b c. Sent
-        (desk (F.told a.files.now) (F.begun a.files.now) a.wait.items a.fault)
+        (desk (F.told a.files.now) (F.begun a.files.now) a.wait a.fault)
         (b ∷ [])
-        (desk (F.told c.files.now) (F.begun c.files.now) c.wait.items c.fault)
+        (desk (F.told c.files.now) (F.begun c.files.now) c.wait c.fault)
         × (c.files.ghost_name ≡ a.files.ghost_name) };
 
     fn put(&mut self, byte: u8) {
-        self.make_room();
-        self.wait.push(byte);
+        if self.wait.is_full() {
+            self.put_anew(byte);
+        } else {
+            self.wait.push(byte);
+        }
+    }
+
+    fn put_repeated(&mut self, byte: u8, times: usize) {
+        if self.wait.has_room_for_few(times) {
+            self.wait.extend_repeated(byte, times);
+        } else if times > 0 {
+            self.put_many(byte, times);
+        }
     }
 
     fn put_all(&mut self, bytes: &[u8]) {
-        if bytes.is_empty() {
-            return;
+        if self.wait.has_room_for(bytes) {
+            self.wait.extend(bytes);
+        } else {
+            self.take_anew(bytes);
         }
-        self.take(bytes);
     }
 }
 
@@ -48,7 +58,7 @@ impl<'a, F: Files> FileOut<'a, F> {
     /// Passes the bytes of the whole listing on to the file that is begun, or keeps the fault that came.
     pub(crate) fn write_listing(&mut self, tree: &Tree)
         requires tree { IsTree tree.now }
-        requires none { self.old.wait.items ≡ [] }
+        requires none { self.old.wait ≡ [] }
         requires fine { self.old.fault ≡ None }
         ensures written { Written
             (F.told self.old.files.now) (F.begun self.old.files.now)
@@ -64,35 +74,48 @@ impl<'a, F: Files> FileOut<'a, F> {
     fn put_listing(&mut self, tree: &Tree)
         requires tree { IsTree tree.now }
         ensures sent { Sent
-            (desk (F.told self.old.files.now) (F.begun self.old.files.now) self.old.wait.items self.old.fault)
+            (desk (F.told self.old.files.now) (F.begun self.old.files.now) self.old.wait self.old.fault)
             (Listing tree.now.items)
-            (desk (F.told self.new.files.now) (F.begun self.new.files.now) self.new.wait.items self.new.fault) }
+            (desk (F.told self.new.files.now) (F.begun self.new.files.now) self.new.wait self.new.fault) }
         ensures files { self.new.files.ghost_name ≡ self.old.files.ghost_name }
     {
         tree.put_listing(self);
     }
 
-    /// Takes bytes into the sink, where they wait until they are passed on.
-    fn take(&mut self, bytes: &[u8])
+    /// Passes on the bytes that wait, and has one byte wait.
+    #[inline(never)]
+    fn put_anew(&mut self, byte: u8)
         ensures sent { Sent
-            (desk (F.told self.old.files.now) (F.begun self.old.files.now) self.old.wait.items self.old.fault)
-            bytes.now
-            (desk (F.told self.new.files.now) (F.begun self.new.files.now) self.new.wait.items self.new.fault) }
+            (desk (F.told self.old.files.now) (F.begun self.old.files.now) self.old.wait self.old.fault)
+            (byte ∷ [])
+            (desk (F.told self.new.files.now) (F.begun self.new.files.now) self.new.wait self.new.fault) }
         ensures files { self.new.files.ghost_name ≡ self.old.files.ghost_name }
     {
-        if bytes.len() <= MOST_WAITING - self.wait.len() {
-            self.hold(bytes);
-        } else {
-            self.take_anew(bytes);
+        self.flush();
+        self.wait.push(byte);
+    }
+
+    /// Puts the byte so many times, one by one.
+    #[inline(never)]
+    fn put_many(&mut self, byte: u8, times: usize)
+        ensures sent { Sent
+            (desk (F.told self.old.files.now) (F.begun self.old.files.now) self.old.wait self.old.fault)
+            (replicate times byte)
+            (desk (F.told self.new.files.now) (F.begun self.new.files.now) self.new.wait self.new.fault) }
+        ensures files { self.new.files.ghost_name ≡ self.old.files.ghost_name }
+    {
+        'times: for _ in 0..times {
+            self.put(byte);
         }
     }
 
     /// Passes on the bytes that wait, and takes others into the sink, so many at a time as may wait.
+    #[inline(never)]
     fn take_anew(&mut self, bytes: &[u8])
         ensures sent { Sent
-            (desk (F.told self.old.files.now) (F.begun self.old.files.now) self.old.wait.items self.old.fault)
+            (desk (F.told self.old.files.now) (F.begun self.old.files.now) self.old.wait self.old.fault)
             bytes.now
-            (desk (F.told self.new.files.now) (F.begun self.new.files.now) self.new.wait.items self.new.fault) }
+            (desk (F.told self.new.files.now) (F.begun self.new.files.now) self.new.wait self.new.fault) }
         ensures files { self.new.files.ghost_name ≡ self.old.files.ghost_name }
     {
         self.flush();
@@ -107,41 +130,24 @@ impl<'a, F: Files> FileOut<'a, F> {
 
     /// Has the bytes wait in the sink, which has room for them.
     fn hold(&mut self, bytes: &[u8])
-        requires room { length self.old.wait.items + length bytes.now ≤ 512 }
+        requires room { length self.old.wait + length bytes.now ≤ MOST_WAITING }
         ensures sent { Sent
-            (desk (F.told self.old.files.now) (F.begun self.old.files.now) self.old.wait.items self.old.fault)
+            (desk (F.told self.old.files.now) (F.begun self.old.files.now) self.old.wait self.old.fault)
             bytes.now
-            (desk (F.told self.new.files.now) (F.begun self.new.files.now) self.new.wait.items self.new.fault) }
-        ensures held { self.new.wait.items ≡ self.old.wait.items ++ bytes.now }
+            (desk (F.told self.new.files.now) (F.begun self.new.files.now) self.new.wait self.new.fault) }
         ensures files { self.new.files.ghost_name ≡ self.old.files.ghost_name }
     {
-        let Ok(()) = self.wait.try_extend_from_slice(bytes) else {
-            unreachable!()
-        };
-    }
-
-    /// Makes room in the sink for one more byte that waits.
-    fn make_room(&mut self)
-        ensures sent { Sent
-            (desk (F.told self.old.files.now) (F.begun self.old.files.now) self.old.wait.items self.old.fault)
-            []
-            (desk (F.told self.new.files.now) (F.begun self.new.files.now) self.new.wait.items self.new.fault) }
-        ensures room { length self.new.wait.items < 512 }
-        ensures files { self.new.files.ghost_name ≡ self.old.files.ghost_name }
-    {
-        if self.wait.len() < MOST_WAITING {
-            return;
-        }
-        self.flush();
+        self.wait.extend(bytes);
     }
 
     /// Passes on the bytes that wait, after which none waits.
+    #[inline(never)]
     pub(crate) fn flush(&mut self)
         ensures sent { Sent
-            (desk (F.told self.old.files.now) (F.begun self.old.files.now) self.old.wait.items self.old.fault)
+            (desk (F.told self.old.files.now) (F.begun self.old.files.now) self.old.wait self.old.fault)
             []
-            (desk (F.told self.new.files.now) (F.begun self.new.files.now) self.new.wait.items self.new.fault) }
-        ensures none { self.new.wait.items ≡ [] }
+            (desk (F.told self.new.files.now) (F.begun self.new.files.now) self.new.wait self.new.fault) }
+        ensures none { self.new.wait ≡ [] }
         ensures files { self.new.files.ghost_name ≡ self.old.files.ghost_name }
     {
         self.pass_on();
@@ -151,7 +157,7 @@ impl<'a, F: Files> FileOut<'a, F> {
     /// Passes on the bytes that wait, and leaves them there.
     fn pass_on(&mut self)
         ensures sent { Sent
-            (desk (F.told self.old.files.now) (F.begun self.old.files.now) self.old.wait.items self.old.fault)
+            (desk (F.told self.old.files.now) (F.begun self.old.files.now) self.old.wait self.old.fault)
             []
             (desk (F.told self.new.files.now) (F.begun self.new.files.now) [] self.new.fault) }
         ensures files { self.new.files.ghost_name ≡ self.old.files.ghost_name }

@@ -9,6 +9,7 @@ mod loading;
 mod reader;
 mod refusal;
 mod saving;
+mod waiting;
 
 pub use limit::{LONGEST_INPUT, LONGEST_LISTING};
 pub use listing_laws::{

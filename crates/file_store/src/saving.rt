@@ -9,7 +9,7 @@ ghost use Rattle.file_store.specs.Saved.{Saves};
 
 use crate::file_out::FileOut;
 use crate::refusal::FileRefusal;
-use arrayvec::ArrayVec;
+use crate::waiting::Waiting;
 use synth_outside::{Files, FilesFault};
 use template_tree::Tree;
 
@@ -45,7 +45,7 @@ fn write_listing<F: Files>(tree: &Tree, files: &mut F) -> Result<(), FilesFault>
 {
     let mut out = FileOut {
         files,
-        wait: ArrayVec::new(),
+        wait: Waiting::none(),
         fault: None,
     };
     out.write_listing(tree);

@@ -35,9 +35,8 @@ pub fn build(
 {
     let mut state = start_state(alloc, category)?;
     for token in tokens {
-        match shift(alloc, state, text, *token) {
-            Ok(behind) => state = behind,
-            Err(fault) => return Err(fault),
+        if let Err(fault) = shift(alloc, &mut state, text, *token) {
+            return Err(fault);
         }
     }
     phrase_of(alloc, state)

@@ -1,5 +1,5 @@
 //! What bytes are put into.
-ghost use Rattle.std.specs.Prelude.{ℕ};
+ghost use Rattle.std.specs.Prelude.{ℕ, replicate};
 ghost use Rattle.plcs_base.specs.Put.{PutsAll};
 
 /// Something that bytes are put into, one after the other.
@@ -13,6 +13,16 @@ pub trait ByteOut {
     /// Puts one byte behind those that were put before.
     fn put(&mut self, byte: u8)
         ensures { puts self.old byte self.new };
+
+    /// Puts the byte so many times behind those that were put before: one after the other, or at once where that comes
+    /// to the same.
+    fn put_repeated(&mut self, byte: u8, times: usize)
+        ensures { PutsAll puts self.old (replicate times byte) self.new }
+    {
+        'times: for _ in 0..times {
+            self.put(byte);
+        }
+    }
 
     /// Puts the bytes behind those that were put before: one after the other, or at once where that comes to the same.
     fn put_all(&mut self, bytes: &[u8])

@@ -1,5 +1,5 @@
 -- Where a chain of operators ends, and its left operands.
-use Rattle.std.proofs.Common.{◌≡◌, ◌≤◌, ℕ, [], refl, ap, sym, ◌∙◌, arith, rules}
+use Rattle.std.proofs.Common.{◌≡◌, ◌<◌, ◌≤◌, ℕ, [], refl, ap, sym, ◌∙◌, arith, rules}
 use Rattle.std.specs.Prelude.{Box}
 use Rattle.std.specs.declared.alloc.Global.{Global}
 use Rattle.plcs_grammar.specs.declared.operator.InfixOp.{InfixOp}
@@ -38,3 +38,12 @@ left_no_deeper e op a b is =
     let sizes : size-Expr e ≡ size-Expr (Infix op a b) = ap size-Expr is in
     let smaller : size-Expr a.value ≤ size-Expr (Infix op a b) = search (rules, the_lemmas) in
     omega (arith, sizes, smaller)
+
+-- the operands of an operator are less deep than it
+pub operands_shallower : (e : Expr) (op : InfixOp) (a b : Box Expr Global) → e ≡ Infix op a b
+    → (size-Expr a.value < size-Expr e) × (size-Expr b.value < size-Expr e)
+operands_shallower e op a b is =
+    let sizes : size-Expr e ≡ size-Expr (Infix op a b) = ap size-Expr is in
+    let left : size-Expr a.value < size-Expr (Infix op a b) = search (rules, the_lemmas) in
+    let right : size-Expr b.value < size-Expr (Infix op a b) = search (rules, the_lemmas) in
+    (omega (arith, sizes, left), omega (arith, sizes, right))

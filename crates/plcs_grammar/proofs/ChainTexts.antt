@@ -1,5 +1,5 @@
 -- The text of a chain of operators, from the left to the right.
-use Rattle.std.proofs.Common.{ℕ, zero, suc, ◌+◌, ◌≡◌, ◌++◌, refl, sym, ap, ◌∙◌, append_assoc, add-suc, add-zero}
+use Rattle.std.proofs.Common.{ℕ, zero, suc, ◌+◌, ◌≡◌, [], ◌++◌, refl, sym, ap, ◌∙◌, append_assoc, add-suc, add-zero}
 use Rattle.std.proofs.lemmas.List.{append-nil}
 use Rattle.plcs_grammar.specs.PlainPhrase.{PlainExpr}
 use Rattle.plcs_grammar.specs.Canon.{canon}
@@ -35,3 +35,14 @@ chain_halves (PlainExpr.binary op a b) left (suc right) =
     ∙ ap (λ n. chain_text (PlainExpr.binary op a b) n) (sym (add-suc left right))
 chain_halves (PlainExpr.builtin function arguments) left right = refl
 chain_halves (PlainExpr.parenthesized a) left right = refl
+
+-- no operators of a chain have no text
+pub chain_none : (e : PlainExpr) → chain_text e 0 ≡ []
+chain_none (PlainExpr.number z) = refl
+chain_none (PlainExpr.text value) = refl
+chain_none (PlainExpr.bit value) = refl
+chain_none (PlainExpr.variable reference) = refl
+chain_none (PlainExpr.unary op a) = refl
+chain_none (PlainExpr.binary op a b) = refl
+chain_none (PlainExpr.builtin function arguments) = refl
+chain_none (PlainExpr.parenthesized a) = refl

@@ -5,6 +5,8 @@ mod Limits
 mod Examples
 -- no template or sign is forgotten in its table: `Template::read` and `Sign::read`
 mod WholeTables
+-- the names of the built-in functions by their length: `Builtin::read`
+mod BuiltinNames
 -- ---- plain forms
 -- where a chain of operators ends, and how deep its left operands are: `show`, `copy_phrase`
 mod ChainOperands

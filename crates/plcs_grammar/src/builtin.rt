@@ -1,5 +1,5 @@
 //! The built-in functions.
-ghost use Rattle.std.specs.Prelude.{◌≡◌};
+ghost use Rattle.std.specs.Prelude.{◌≡◌, bytes_eq, find};
 ghost use Rattle.plcs_grammar.specs.Builtin.{builtin_name, builtin_of};
 
 /// A built-in function of the language. Its name is reserved.
@@ -21,26 +21,28 @@ pub enum Builtin {
     Index,
 }
 
-/// All built-in functions.
-const BUILTINS: [Builtin; 7] = [
-    Builtin::Abs,
-    Builtin::Mod,
-    Builtin::Min,
-    Builtin::Max,
-    Builtin::Length,
-    Builtin::Substr,
-    Builtin::Index,
-];
+/// The built-in functions whose names have 3 letters.
+const NAMED_BY_3: [Builtin; 4] = [Builtin::Abs, Builtin::Mod, Builtin::Min, Builtin::Max];
+
+/// The built-in function whose name has 5 letters.
+const NAMED_BY_5: [Builtin; 1] = [Builtin::Index];
+
+/// The built-in functions whose names have 6 letters; no name has another length.
+const NAMED_BY_6: [Builtin; 2] = [Builtin::Length, Builtin::Substr];
 
 impl Builtin {
-    /// The built-in function that has the name, or `None` where none has.
+    /// The built-in function that has the name, or `None` where none has. The name is compared with those of its length
+    /// alone.
+    #[tactic(auto, using(crate::proofs::BuiltinNames::no_builtin))]
     pub fn read(name: &[u8]) -> Option<Builtin>
         ensures { result ≡ builtin_of name.now }
     {
-        BUILTINS
-            .iter()
-            .copied()
-            .find(|function| name == function.name())
+        match name.len() {
+            3 => named(name, &NAMED_BY_3),
+            5 => named(name, &NAMED_BY_5),
+            6 => named(name, &NAMED_BY_6),
+            _ => None,
+        }
     }
 
     /// The name of the built-in function, in capitals.
@@ -57,4 +59,14 @@ impl Builtin {
             Builtin::Index => b"INDEX",
         }
     }
+}
+
+/// The first of the built-in functions that has the name, or `None` where none of them has.
+fn named(name: &[u8], functions: &[Builtin]) -> Option<Builtin>
+    ensures { result ≡ find (λ function. bytes_eq name.now (builtin_name function)) functions.now }
+{
+    functions
+        .iter()
+        .copied()
+        .find(|function| name == function.name())
 }

@@ -1,5 +1,5 @@
 //! Numbers, and the constants of phrases, as they are written; the value of a numeral.
-ghost use Rattle.std.specs.Prelude.{◌≡◌, ◌-◌, ◌^◌, if◌then◌else◌, [], ◌∷◌, decimal, min};
+ghost use Rattle.std.specs.Prelude.{◌≡◌, ◌≤◌, ◌-◌, ◌^◌, if◌then◌else◌, [], ◌∷◌, decimal, min};
 ghost use Rattle.std.specs.Fmt.{signed_decimal};
 ghost use Rattle.plcs_base.specs.Put.{PutsAll};
 ghost use Rattle.plcs_grammar.specs.Token.{bit_bytes, numeral_value, quoted, with_quotes_doubled};
@@ -7,30 +7,52 @@ ghost use Rattle.plcs_grammar.specs.Token.{bit_bytes, numeral_value, quoted, wit
 use plcs_base::{ByteOut, put_bytes};
 
 /// Puts the digits of a number as it is written, without leading zeros.
+#[cycle(digits)]
+#[inline(always)]
 pub fn put_decimal<O: ByteOut>(number: u32, out: &mut O)
     ensures { PutsAll O.puts out.old (decimal number) out.new }
 {
     if number < 10 {
         out.put(b'0' + number as u8);
     } else {
-        put_decimal(number / 10, out);
-        out.put(b'0' + (number % 10) as u8);
+        put_digits(number, out);
     }
 }
 
+/// Puts the digits of a number that has several.
+#[cycle(digits)]
+#[inline(never)]
+fn put_digits<O: ByteOut>(number: u32, out: &mut O)
+    requires several { 10 ≤ number }
+    ensures { PutsAll O.puts out.old (decimal number) out.new }
+{
+    put_decimal(number / 10, out);
+    out.put(b'0' + (number % 10) as u8);
+}
+
 /// Puts a number as it is written, with its sign before it where it is negative.
+#[inline(always)]
 pub fn put_number<O: ByteOut>(number: i32, out: &mut O)
     ensures { PutsAll O.puts out.old (signed_decimal number) out.new }
 {
     if number < 0 {
-        out.put(b'-');
-        put_decimal(number.unsigned_abs(), out);
+        put_negative(number.unsigned_abs(), out);
     } else {
         put_decimal(number as u32, out);
     }
 }
 
+/// Puts a negative number as it is written: its digits behind its sign.
+#[inline(never)]
+fn put_negative<O: ByteOut>(number: u32, out: &mut O)
+    ensures { PutsAll O.puts out.old (45 ∷ decimal number) out.new }
+{
+    out.put(b'-');
+    put_decimal(number, out);
+}
+
 /// Puts a character constant: the bytes between quotes, with each quote among them doubled.
+#[inline(never)]
 pub fn put_quoted<O: ByteOut>(bytes: &[u8], out: &mut O)
     ensures { PutsAll O.puts out.old (quoted bytes.now) out.new }
 {

@@ -1,5 +1,6 @@
 //! Operators, and their signs.
-ghost use Rattle.std.specs.Prelude.{◌≡◌};
+ghost use Rattle.std.specs.Prelude.{◌≡◌, []};
+ghost use Rattle.plcs_grammar.specs.Canon.{behind_sign};
 ghost use Rattle.plcs_grammar.specs.Sign.{prefix_sign, infix_sign};
 
 use crate::sign::Sign;
@@ -78,6 +79,27 @@ impl InfixOp {
             InfixOp::Minus => Sign::Minus,
             InfixOp::Times => Sign::Times,
             InfixOp::Divide => Sign::Divide,
+        }
+    }
+
+    /// The sign of the infix operator with a blank on each side.
+    pub(crate) fn spaced(self) -> &'static [u8]
+        ensures { result.now ≡ behind_sign (infix_sign self) [] }
+    {
+        match self {
+            InfixOp::Or => b" | ",
+            InfixOp::And => b" & ",
+            InfixOp::Equal => b" = ",
+            InfixOp::NotEqual => b" ^= ",
+            InfixOp::Less => b" < ",
+            InfixOp::LessEqual => b" <= ",
+            InfixOp::Greater => b" > ",
+            InfixOp::GreaterEqual => b" >= ",
+            InfixOp::Join => b" || ",
+            InfixOp::Plus => b" + ",
+            InfixOp::Minus => b" - ",
+            InfixOp::Times => b" * ",
+            InfixOp::Divide => b" / ",
         }
     }
 }

@@ -57,13 +57,20 @@ impl NodeKind {
     pub fn row(self) -> Row
         ensures { plain_row result ≡ row_of self }
     {
+        *self.table_row()
+    }
+
+    /// The row for a node of this kind as it stands in the table.
+    pub fn table_row(self) -> &'static Row
+        ensures { plain_row result.now ≡ row_of self }
+    {
         match self {
-            NodeKind::DeclarationHole => DECLARATION_HOLE,
-            NodeKind::StatementHole => STATEMENT_HOLE,
-            NodeKind::ProcedureHole => PROCEDURE_HOLE,
-            NodeKind::Main => MAIN,
-            NodeKind::Assign => ASSIGN,
-            NodeKind::Filled(template) => *template.row(),
+            NodeKind::DeclarationHole => &DECLARATION_HOLE,
+            NodeKind::StatementHole => &STATEMENT_HOLE,
+            NodeKind::ProcedureHole => &PROCEDURE_HOLE,
+            NodeKind::Main => &MAIN,
+            NodeKind::Assign => &ASSIGN,
+            NodeKind::Filled(template) => template.row(),
         }
     }
 }
@@ -400,7 +407,7 @@ static PROC_P: Row = Row {
 };
 
 /// The row of the table of templates for a hole for a declaration.
-const DECLARATION_HOLE: Row = Row {
+static DECLARATION_HOLE: Row = Row {
     sort: Sort::Declaration,
     command: None,
     line: &[Segment::Words(b"{declaration}")],
@@ -409,7 +416,7 @@ const DECLARATION_HOLE: Row = Row {
 };
 
 /// The row of the table of templates for a hole for a statement.
-const STATEMENT_HOLE: Row = Row {
+static STATEMENT_HOLE: Row = Row {
     sort: Sort::Statement,
     command: None,
     line: &[Segment::Words(STATEMENT_HOLE_WORD)],
@@ -418,7 +425,7 @@ const STATEMENT_HOLE: Row = Row {
 };
 
 /// The row of the table of templates for a hole for a procedure.
-const PROCEDURE_HOLE: Row = Row {
+static PROCEDURE_HOLE: Row = Row {
     sort: Sort::Procedure,
     command: None,
     line: &[Segment::Words(b"{procedure}")],
@@ -427,7 +434,7 @@ const PROCEDURE_HOLE: Row = Row {
 };
 
 /// The row of the table of templates for main.
-const MAIN: Row = Row {
+static MAIN: Row = Row {
     sort: Sort::Main,
     command: None,
     line: &[Segment::Words(b"main: PROCEDURE OPTIONS ( MAIN );")],
@@ -436,7 +443,7 @@ const MAIN: Row = Row {
 };
 
 /// The row of the table of templates for an assignment.
-const ASSIGN: Row = Row {
+static ASSIGN: Row = Row {
     sort: Sort::Statement,
     command: None,
     line: &[Segment::Part(Category::Assignment), Segment::Words(b";")],

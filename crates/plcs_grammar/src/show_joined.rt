@@ -12,6 +12,7 @@ use crate::show_expr::show_variable;
 use plcs_base::{ByteOut, Name, put_bytes};
 
 /// Puts the canonical texts of the elements of a list, joined by commas.
+#[inline(never)]
 pub(crate) fn show_joined<T: Shown, O: ByteOut>(items: &[T], out: &mut O)
     ensures { PutsAll O.puts out.old (joined T.shown items.now) out.new }
 {

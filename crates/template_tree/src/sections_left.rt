@@ -26,6 +26,7 @@ impl SectionsLeft {
     }
 
     /// The sections that are left for an item of the sort and the items after it.
+    #[inline(always)]
     pub fn at(self, sort: Sort) -> SectionsLeft
         ensures { plain_sections_left result ≡ left_for sort (plain_sections_left self) }
     {
@@ -35,7 +36,7 @@ impl SectionsLeft {
         if section.sort == sort {
             return self;
         }
-        SectionsLeft::of(others).at(sort)
+        SectionsLeft::of(sections_from(others, sort))
     }
 
     /// The line that stands before the section of a node's row in which the next item stands, if it has one
@@ -67,4 +68,18 @@ impl SectionsLeft {
             },
         }
     }
+}
+
+/// The sections from the first one of the sort on.
+#[inline(never)]
+fn sections_from(sections: &'static [Section], sort: Sort) -> &'static [Section]
+    ensures { map plain_section result.now ≡ left_for sort (map plain_section sections.now) }
+{
+    let Some((section, others)) = sections.split_first() else {
+        return sections;
+    };
+    if section.sort == sort {
+        return sections;
+    }
+    sections_from(others, sort)
 }

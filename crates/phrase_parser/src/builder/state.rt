@@ -4,7 +4,7 @@ ghost use Rattle.phrase_parser.specs.Private.Machine.{start_state, shift, shift_
 ghost use Rattle.phrase_parser.specs.Private.TokenIn.{IsConstant, IsPlacedIn, between_quotes, token_in};
 ghost use Rattle.phrase_parser.specs.Private.Unquoted.{undoubled};
 ghost use Rattle.phrase_parser.specs.Private.Views.{state_of, primary_of};
-ghost use Rattle.std.specs.Prelude.{◌≤◌};
+ghost use Rattle.std.specs.Prelude.{◌≡◌, ◌≤◌};
 ghost use Rattle.phrase_parser.specs.NotRead.{Gives};
 ghost use Rattle.plcs_grammar.specs.Limit.{greatest_number};
 ghost use Rattle.plcs_grammar.specs.PlainPhrase.{PlainExpr, plain_phrase};
@@ -26,6 +26,7 @@ use crate::token::{Placed, TokenKind};
 use plcs_base::{LONGEST_TEXT, Name};
 use plcs_grammar::{Category, Expr, InfixOp, Item, Phrase, Sign, VarRef};
 use std::alloc::Global;
+use std::mem;
 
 /// A state of the builder: what was read last, and what is wanted.
 #[derive(Drop)]
@@ -76,23 +77,21 @@ pub fn start_state(alloc: Global, category: Category) -> Result<ParseState, NotR
     }
 }
 
-/// The builder's state after one more token, if it can stand there.
+/// Brings the builder's state on by one more token, if it can stand there. A state is large, so it stays where it is;
+/// where the token can't stand, the state is lost.
 pub fn shift(
     alloc: Global,
-    state: ParseState,
+    state: &mut ParseState,
     text: &[u8],
     token: Placed,
-) -> Result<ParseState, NotRead>
+) -> Result<(), NotRead>
     requires { IsPlacedIn text.now token }
-    ensures { Gives state_of result (shift (state_of state) (token_in text.now token)) }
+    ensures { Gives (λ _. state_of state.new) result (shift (state_of state.old) (token_in text.now token)) }
 {
     let bytes = &text[token.start..token.end];
     match token.kind {
         TokenKind::Name => shift_name(state, name_of(bytes)),
-        TokenKind::Keyword => {
-            let_go(state);
-            Err(NotRead::Refused)
-        }
+        TokenKind::Keyword => Err(NotRead::Refused),
         TokenKind::Number(n) => shift_number(state, n),
         TokenKind::Text => shift_text(alloc, state, bytes),
         TokenKind::Bit(value) => shift_operand(state, Primary::Bit(value)),
@@ -100,65 +99,89 @@ pub fn shift(
     }
 }
 
-/// The builder's state after the character constant that the bytes of a token are, if one can stand there. A function
-/// clears the room of all its values whenever it begins, so the value of a text has room in one of its own.
+/// Brings the builder's state on by the character constant that the bytes of a token are, if one can stand there. A
+/// function clears the room of all its values whenever it begins, so the value of a text has room in one of its own.
 #[inline(never)]
-fn shift_text(alloc: Global, state: ParseState, bytes: &[u8]) -> Result<ParseState, NotRead>
+fn shift_text(alloc: Global, state: &mut ParseState, bytes: &[u8]) -> Result<(), NotRead>
     requires { IsConstant bytes.now }
-    ensures { Gives state_of result
-        (shift_operand (state_of state) (PlainExpr.text (undoubled (between_quotes bytes.now)))) }
+    ensures { Gives (λ _. state_of state.new) result
+        (shift_operand (state_of state.old) (PlainExpr.text (undoubled (between_quotes bytes.now)))) }
 {
     shift_operand(state, constant(alloc, constant_value(bytes))?)
 }
 
-/// The builder's state after a name, if one can stand there.
-pub fn shift_name(state: ParseState, name: Name) -> Result<ParseState, NotRead>
-    ensures { Gives state_of result (shift_name (state_of state) name) }
+/// Takes the state, for which another one is left that takes no room.
+fn taken(state: &mut ParseState) -> ParseState
+    ensures { result ≡ state.old }
 {
-    match state {
-        ParseState::Wanted(stack) => Ok(ParseState::Had(stack, Primary::Name(name))),
-        ParseState::NameWanted(role) => Ok(ParseState::NameHad(role, name)),
-        _ => {
-            let_go(state);
-            Err(NotRead::Refused)
-        }
-    }
+    mem::replace(state, ParseState::LengthWanted)
 }
 
-/// The builder's state after a number, if one can stand there.
-#[inline(never)]
-pub fn shift_number(state: ParseState, n: u32) -> Result<ParseState, NotRead>
+/// Brings the builder's state on by a name, if one can stand there.
+fn shift_name(state: &mut ParseState, name: Name) -> Result<(), NotRead>
+    ensures { Gives (λ _. state_of state.new) result (shift_name (state_of state.old) name) }
+{
+    match taken(state) {
+        ParseState::Wanted(stack) => *state = ParseState::Had(stack, Primary::Name(name)),
+        ParseState::NameWanted(role) => *state = ParseState::NameHad(role, name),
+        other => {
+            let_go(other);
+            return Err(NotRead::Refused);
+        }
+    }
+    Ok(())
+}
+
+/// Brings the builder's state on by a number, if one can stand there.
+fn shift_number(state: &mut ParseState, n: u32) -> Result<(), NotRead>
     requires { n ≤ greatest_number }
-    ensures { Gives state_of result (shift_number (state_of state) n) }
+    ensures { Gives (λ _. state_of state.new) result (shift_number (state_of state.old) n) }
 {
-    match state {
-        ParseState::Wanted(stack) => Ok(ParseState::Had(stack, number(n))),
-        ParseState::SizeWanted(done, name) if n >= 1 => Ok(ParseState::SizeHad(done, name, n)),
-        ParseState::LengthWanted if n >= 1 && n as usize <= LONGEST_TEXT => {
-            Ok(ParseState::LengthHad(n as u16))
+    match taken(state) {
+        ParseState::Wanted(stack) => *state = ParseState::Had(stack, number(n)),
+        ParseState::SizeWanted(done, name) if n >= 1 => {
+            *state = ParseState::SizeHad(done, name, n);
         }
-        _ => {
-            let_go(state);
-            Err(NotRead::Refused)
+        ParseState::LengthWanted if n >= 1 && n as usize <= LONGEST_TEXT => {
+            *state = ParseState::LengthHad(n as u16);
+        }
+        other => {
+            let_go(other);
+            return Err(NotRead::Refused);
         }
     }
+    Ok(())
 }
 
-/// The builder's state after a whole operand, if one can stand there.
-pub fn shift_operand(state: ParseState, primary: Primary) -> Result<ParseState, NotRead>
-    ensures { Gives state_of result (shift_operand (state_of state) (primary_of primary)) }
+/// Brings the builder's state on by a whole operand, if one can stand there.
+fn shift_operand(state: &mut ParseState, primary: Primary) -> Result<(), NotRead>
+    ensures { Gives (λ _. state_of state.new) result (shift_operand (state_of state.old) (primary_of primary)) }
 {
-    match state {
-        ParseState::Wanted(stack) => Ok(ParseState::Had(stack, primary)),
-        _ => {
-            let_go(state);
-            Err(NotRead::Refused)
+    match taken(state) {
+        ParseState::Wanted(stack) => *state = ParseState::Had(stack, primary),
+        other => {
+            let_go(other);
+            return Err(NotRead::Refused);
         }
     }
+    Ok(())
+}
+
+/// Brings the builder's state on by a sign, if it can stand there.
+#[inline(never)]
+fn shift_sign(alloc: Global, state: &mut ParseState, sign: Sign) -> Result<(), NotRead>
+    ensures { Gives (λ _. state_of state.new) result (shift_sign (state_of state.old) sign) }
+{
+    match after_sign(alloc, taken(state), sign) {
+        Ok(behind) => *state = behind,
+        Err(fault) => return Err(fault),
+    }
+    Ok(())
 }
 
 /// The builder's state after a sign, if it can stand there.
-pub fn shift_sign(alloc: Global, state: ParseState, sign: Sign) -> Result<ParseState, NotRead>
+#[inline(always)]
+fn after_sign(alloc: Global, state: ParseState, sign: Sign) -> Result<ParseState, NotRead>
     ensures { Gives state_of result (shift_sign (state_of state) sign) }
 {
     match sign {

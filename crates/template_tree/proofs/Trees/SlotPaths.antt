@@ -4,8 +4,9 @@ use Rattle.std.proofs.Common.{ap, sym, subst, arith, add-one, drop-cons}
 use Rattle.std.proofs.Math.Bool.{false≢true}
 use Rattle.std.proofs.lemmas.Option.{none-some, slice_get_read}
 use Rattle.template_tree.specs.Programs.PlainTree.{Forest, PlainNode, forest, nodes_forest}
-use Rattle.template_tree.specs.Programs.Slots.{count, times}
+use Rattle.template_tree.specs.Programs.Slots.{count, depth, times}
 use Rattle.template_tree.specs.Positions.Path.{below, node_at, slot_at}
+use Rattle.template_tree.specs.Private.Weight.{forest_weight, weight}
 use Rattle.template_tree.proofs.Edits.SlotEdits.{present}
 
 -- a path below an item is one from its list on
@@ -24,6 +25,20 @@ path_inside node (k ∷ path) slot e = e
 pub left_times : (slot : ℕ) (items : List PlainNode) (k : ℕ) (node : PlainNode) → k < length items → node ≡ get_or items k node
     → times slot (forest (drop k items)) ≡ times slot (forest (node ∷ [])) + times slot (forest (drop (k + 1) items))
 left_times slot items k node inside is = rw (add-one k, drop-cons items k node inside, ← is) (omega arith)
+
+-- an item is no heavier than its list
+pub item_light : (items : List PlainNode) (k : ℕ) (node : PlainNode) → k < length items → node ≡ get_or items k node
+    → weight node ≤ forest_weight (forest items)
+item_light [] k node inside is = absurd (omega (arith, inside))
+item_light (x ∷ xs) zero node inside is = omega (arith, ap weight is)
+item_light (x ∷ xs) (suc k) node inside is = omega (arith, item_light xs k node (omega arith) is)
+
+-- what stands inside an item is less deep than its list
+pub item_shallow : (items : List PlainNode) (k : ℕ) (node : PlainNode) → k < length items → node ≡ get_or items k node
+    → depth node.inner + 1 ≤ depth (forest items)
+item_shallow [] k node inside is = absurd (omega (arith, inside))
+item_shallow (x ∷ xs) zero node inside is = omega (arith, ap (λ n. depth n.inner) is)
+item_shallow (x ∷ xs) (suc k) node inside is = omega (arith, item_shallow xs k node (omega arith) is)
 
 -- an item has no more nodes inside it than its list has
 pub item_few : (items : List PlainNode) (k : ℕ) (node : PlainNode) → k < length items → node ≡ get_or items k node

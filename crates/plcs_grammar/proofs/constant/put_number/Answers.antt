@@ -2,7 +2,6 @@ use Rattle.std.proofs.Common.{◌≡◌, pos, true, ap, ◌∙◌, subst, w32, t
 use Rattle.std.specs.Prelude.{nat_abs}
 use Rattle.std.specs.Int.Signed.{lt_z}
 use Rattle.std.proofs.lemmas.Int.{to_z-of_z}
-use Rattle.plcs_base.specs.Put.{puts_next}
 use Rattle.plcs_base.specs.Putting.{puts_same}
 use Rattle.plcs_grammar.proofs.NegativeNumbers.{negative_text}
 use Rattle.plcs_grammar.proofs.constant.put_number.Goals as goal
@@ -14,4 +13,4 @@ returns-then-number-lt0 g c =
     let below : lt_z number (pos 0) ≡ true = subst (λ z. lt_z z (pos 0) ≡ true) read c.if-number-lt0.true in
     puts_same
     (negative_text number c.unsigned_abs.result below (c.unsigned_abs.ensures.value ∙ ap nat_abs read))
-    (puts_next c.put.ensures c.put_decimal.ensures)
+    c.put_negative.ensures

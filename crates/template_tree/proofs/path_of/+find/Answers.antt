@@ -1,8 +1,7 @@
 use Rattle.std.proofs.Common.{◌<◌, ◌∷◌, ◌∙◌, ap, arith, length}
 use Rattle.template_tree.specs.Positions.Path.{slot_at}
 use Rattle.template_tree.specs.Programs.PlainTree.{forest}
-use Rattle.template_tree.proofs.Listings.PutLines.{item_light, item_shallow}
-use Rattle.template_tree.proofs.Trees.SlotPaths.{item_few, list_few, path_through}
+use Rattle.template_tree.proofs.Trees.SlotPaths.{item_few, item_light, item_shallow, list_few, path_through}
 use Rattle.template_tree.proofs.path_of.+find.Goals as goal
 
 pub path_in-path_below-requires : goal.path_in-path_below-requires

@@ -3,7 +3,7 @@ use Rattle.file_store.proofs.Sending.{all_kept, all_sent}
 use Rattle.file_store.proofs.file_out.FileOut.put_listing.Goals as goal
 
 pub returns-clause-sent : goal.returns-clause-sent
-returns-clause-sent g c = all_sent _ (λ out. desk (g.F.Files.told out.files.now) (g.F.Files.begun out.files.now) out.wait.items out.fault)
+returns-clause-sent g c = all_sent _ (λ out. desk (g.F.Files.told out.files.now) (g.F.Files.begun out.files.now) out.wait out.fault)
     (λ a d b h. h.0) c.put_listing.ensures
 
 pub returns-clause-files : goal.returns-clause-files

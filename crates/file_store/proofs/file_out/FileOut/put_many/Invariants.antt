@@ -1,0 +1,10 @@
+use Rattle.std.proofs.Common.{◌≡◌, replicate}
+use Rattle.file_store.specs.Private.Desk.{Sent, desk}
+use Rattle.file_store.proofs.file_out.FileOut.put_many.Given as goal
+
+abbrev pub invariant-times : goal.invariant-times
+invariant-times g l =
+    Sent (desk (g.F.Files.told l.fn.self.files.now) (g.F.Files.begun l.fn.self.files.now) l.fn.self.wait l.fn.self.fault)
+    (replicate l.counter l.byte)
+    (desk (g.F.Files.told l.self.files.now) (g.F.Files.begun l.self.files.now) l.self.wait l.self.fault)
+    × (l.self.files.ghost_name ≡ l.fn.self.files.ghost_name)
