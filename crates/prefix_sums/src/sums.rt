@@ -1,5 +1,5 @@
 //! A list of numbers with the running sum of every 64th beside it.
-ghost use Rattle.std.specs.Prelude.{◌≡◌, ◌+◌, ◌*◌, ◌^◌, ◌<◌, ◌≤◌, [], OnOk, Some, length, slice_get, slice_set, sum, take, vec_capacity, vec_len};
+ghost use Rattle.std.specs.Prelude.{◌≡◌, ◌+◌, ◌*◌, ◌^◌, ◌<◌, ◌≤◌, ◌++◌, [], OnOk, Some, length, slice_get, slice_set, sum, take, vec_capacity, vec_len};
 ghost use Rattle.std.specs.List.{insert};
 ghost use Rattle.prefix_sums.specs.Found.{IsFound};
 ghost use Rattle.prefix_sums.specs.PlainPrefixSums.{with_number_inserted, with_number_set, with_number_removed};
@@ -137,6 +137,22 @@ impl PrefixSums {
         self.marks.reserve(more / BLOCK + 1)
     }
 
+    /// Moves the numbers of the list, with their sums, into the room of an empty one, which is the list then. It
+    /// takes no memory.
+    pub fn move_into(&mut self, room: PrefixSums)
+        requires empty { room.numbers ≡ [] }
+        requires room { length self.old.numbers ≤ room.spare }
+        ensures numbers { self.new.numbers ≡ self.old.numbers }
+        ensures room { room.spare ≤ self.new.spare + length self.old.numbers }
+    {
+        let mut numbers = room.numbers;
+        let mut marks = room.marks;
+        append_reserved(&mut numbers, &mut self.numbers);
+        append_reserved(&mut marks, &mut self.marks);
+        self.numbers = numbers;
+        self.marks = marks;
+    }
+
     /// Sets the number of the list in this place, counted from 0, and mends its sums. It takes no memory.
     pub fn set(&mut self, k: usize, number: u32)
         requires there { k < length self.old.numbers }
@@ -194,4 +210,14 @@ fn insert_reserved(numbers: &mut Vec<u32>, k: usize, number: u32)
     ensures room { vec_capacity numbers.new ≡ vec_capacity numbers.old }
 {
     if let Err(_) = numbers.insert(k, number) {}
+}
+
+/// Moves the numbers of a list behind those of another one, in the room that it has.
+fn append_reserved(numbers: &mut Vec<u32>, others: &mut Vec<u32>)
+    requires room { vec_len numbers.old + vec_len others.old ≤ vec_capacity numbers.old }
+    ensures moved { numbers.new.items ≡ numbers.old.items ++ others.old.items }
+    ensures len { vec_len numbers.new ≡ vec_len numbers.old + vec_len others.old }
+    ensures room { vec_capacity numbers.old ≤ vec_capacity numbers.new }
+{
+    if let Err(_) = numbers.append(others) {}
 }

@@ -11,6 +11,8 @@ pub enum Case {
     Take,
     /// Hides refinements of comments, or shows them.
     Elide,
+    /// Edits the program, and mends its layout.
+    Mend,
     /// Tries a phrase in a part that is empty before and behind.
     Check,
     /// Marks a phrase by hand, or none.
@@ -36,10 +38,11 @@ pub enum Case {
 }
 
 /// The cases on what is derived from a program, with their names.
-pub static CASES: [(&[u8], Case); 18] = [
+pub static CASES: [(&[u8], Case); 19] = [
     (b"program", Case::Program),
     (b"take", Case::Take),
     (b"elide", Case::Elide),
+    (b"mend", Case::Mend),
     (b"check", Case::Check),
     (b"mark", Case::Mark),
     (b"declared", Case::About(Question::Declared)),

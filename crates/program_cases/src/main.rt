@@ -10,6 +10,7 @@ mod declarations;
 mod held;
 mod lines;
 mod marks;
+mod mending;
 mod one_mark;
 mod paintings;
 mod phrase_text;
@@ -26,6 +27,7 @@ use crate::declarations::declarations;
 use crate::held::Held;
 use crate::lines::{lines, stops};
 use crate::marks::{check, marks};
+use crate::mending::mend;
 use crate::paintings::paintings;
 use crate::program::{elide, read_program, take};
 use crate::screens::{grid, paint_grid};
@@ -113,6 +115,7 @@ fn play(
         Case::Program => read_program(alloc, &mut held.tree, held.text.as_slice(), told),
         Case::Take => take(alloc, &mut held.tree, words, told),
         Case::Elide => elide(alloc, &mut held.tree, words, told),
+        Case::Mend => mend(alloc, &mut held.tree, words, told),
         Case::Check => check(alloc, &mut held.tree, words, told),
         _ => ask(alloc, held, case, words, told),
     }

@@ -8,9 +8,9 @@ use Rattle.template_tree.specs.Programs.PlainTree.{Forest, PlainNode, nodes}
 use Rattle.template_tree.specs.Programs.Program.{sort_of}
 use Rattle.template_tree.specs.Listings.Section.{left_for, left_after}
 use Rattle.template_tree.specs.Programs.Slots.{count}
-use Rattle.unparse_layout.specs.Bones.{Bone, PlainLayout, bones_of}
+use Rattle.unparse_layout.specs.Bones.{Bone, PlainLayout, bones_of, bone_count}
 use Rattle.unparse_layout.specs.Private.PlainNodeLayout.{PlainNodeLayout, node_layouts, bones, node_layouts_bones}
-use Rattle.unparse_layout.specs.Private.Height.{line_count, one_if, height_around, height, heights, bone_count}
+use Rattle.unparse_layout.specs.Private.Height.{line_count, one_if, height_around, height, heights}
 
 -- the numbers of a list's nodes add up to the number of the list
 pub heights_sum : (items : PlainLayout) → sum (map height (node_layouts items)) ≡ heights items

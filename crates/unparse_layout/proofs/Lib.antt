@@ -19,5 +19,15 @@ pub mod ListedLines
 pub mod RoomlessLines
 -- Layout::elided: a layout after a refinement was hidden or shown
 pub mod TurnedBones
+-- Layout::prepare: what becomes of the node at the path of an edit, in the tree and in its layout
+pub mod RoomlessNodes
+pub mod SlotNodes
+pub mod KeptLeads
+pub mod MendedBones
+pub mod PreparedMends
+-- `path_inside`: the path of a slot in a layout
+pub mod FoundSlots
+-- Layout::commit: what becomes of a node, in the list in which it stands
+pub mod MendedLists
 -- `lay`: the cells of a line while they are put
 pub mod PutCells

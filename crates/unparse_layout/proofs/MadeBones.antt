@@ -8,9 +8,9 @@ use Rattle.template_tree.specs.Programs.PlainTree.{Forest, PlainNode, nodes, for
 use Rattle.template_tree.specs.Programs.Program.{sort_of}
 use Rattle.template_tree.specs.Listings.Section.{left_for, left_after, next_lead}
 use Rattle.template_tree.specs.Programs.Slots.{count}
-use Rattle.unparse_layout.specs.Bones.{PlainLayout, bones_of}
+use Rattle.unparse_layout.specs.Bones.{PlainLayout, bones_of, bone_count}
 use Rattle.unparse_layout.specs.Private.PlainNodeLayout.{PlainNodeLayout, node_layouts, bones, node_layouts_bones, bones_node_layouts, node_layout_of}
-use Rattle.unparse_layout.specs.Private.Height.{height, heights, bone_count}
+use Rattle.unparse_layout.specs.Private.Height.{height, heights}
 use Rattle.unparse_layout.proofs.Heights.{count_bones, heights_le, height_le}
 
 -- what is left of a list begins with the item that is found

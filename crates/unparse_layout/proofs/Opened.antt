@@ -42,3 +42,8 @@ sum_with_last numbers k number = sum_by-insert (λ n. n) numbers k number
 pub found_again : (a : Inside) (node_layout : PlainNodeLayout) (k : ℕ) → seen a ≡ node_layout → slice_get (node_layouts node_layout.inner) k ≡ slice_get a.inner.items k
 found_again a node_layout k view =
     sym (ap (λ (o : PlainNodeLayout). slice_get (node_layouts o.inner) k) view) ∙ ap (λ xs. slice_get xs k) (node_layouts_bones a.inner.items)
+
+-- the nodes inside it are those that are kept
+pub items_are : (a : Inside) (node_layout : PlainNodeLayout) → seen a ≡ node_layout → node_layouts node_layout.inner ≡ a.inner.items
+items_are a node_layout view =
+    sym (ap (λ (o : PlainNodeLayout). node_layouts o.inner) view) ∙ node_layouts_bones a.inner.items

@@ -15,9 +15,9 @@ use Rattle.template_tree.specs.Listings.Section.{left_for, left_after, next_lead
 use Rattle.template_tree.specs.Listings.Line.{Lines, fixed_line, lines}
 use Rattle.template_tree.specs.Positions.Stop.{VisibleNode, VisibleStop, PlainStop, IsStop, MayStand, Stops, inside, part_stops, stops_of, visible_at, visible_below, visible_nodes}
 use Rattle.unparse_layout.specs.OwnedLine.{bare_line, owned_lines}
-use Rattle.unparse_layout.specs.Bones.{Bone, PlainLayout, bones_of}
+use Rattle.unparse_layout.specs.Bones.{Bone, PlainLayout, bones_of, bone_count}
 use Rattle.unparse_layout.specs.Private.PlainNodeLayout.{PlainNodeLayout, node_layouts, node_layout_of}
-use Rattle.unparse_layout.specs.Private.Height.{one_if, height_around, height, heights, bone_count}
+use Rattle.unparse_layout.specs.Private.Height.{one_if, height_around, height, heights}
 use Rattle.unparse_layout.specs.Private.ItemLines.{lines_before}
 use Rattle.unparse_layout.proofs.Heights.{around_le, heights_le, heights_sum, one_if_le}
 use Rattle.unparse_layout.proofs.LineNumbers.{bare_lines, lines_length}

@@ -10,9 +10,8 @@ use Rattle.template_tree.specs.Programs.Program.{sort_of}
 use Rattle.template_tree.specs.Listings.Section.{left_for, left_after, next_lead}
 use Rattle.template_tree.specs.Edits.Edit.{edit_at, edit_below, give_way}
 use Rattle.template_tree.specs.Edits.Elision.{is_comment, toggled}
-use Rattle.unparse_layout.specs.Bones.{Bone, PlainLayout, bones_of}
+use Rattle.unparse_layout.specs.Bones.{Bone, PlainLayout, bones_of, bone_count}
 use Rattle.unparse_layout.specs.Private.PlainNodeLayout.{PlainNodeLayout, bones, bones_node_layouts, node_layouts}
-use Rattle.unparse_layout.specs.Private.Height.{bone_count}
 use Rattle.unparse_layout.specs.Private.NodeLayoutLend.{with_elision}
 
 -- nodes in which the one at the path is elided or not

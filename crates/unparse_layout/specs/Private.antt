@@ -8,6 +8,11 @@ pub mod Height
 pub mod ItemLines
 pub mod NodeLayoutView
 pub mod NodeLayoutLend
+-- ---- edits that were prepared for a layout
+pub mod LayoutPaths
+pub mod LayoutRoomView
+pub mod LayoutEditView
+pub mod ChangeBefore
 -- ---- a line before it is laid, and its cells while they are put
 pub mod PlainPlan
 pub mod Cells

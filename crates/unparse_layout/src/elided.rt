@@ -3,8 +3,8 @@ ghost use Rattle.std.specs.Prelude.{◌≡◌, ◌≤◌};
 ghost use Rattle.template_tree.specs.Programs.Limit.{most_slots};
 ghost use Rattle.template_tree.specs.Programs.Tree.{IsTree};
 ghost use Rattle.unparse_layout.specs.Agreement.{IsLayoutBeforeToggle, IsLayoutOf};
-ghost use Rattle.unparse_layout.specs.Private.Height.{bone_count};
 ghost use Rattle.unparse_layout.specs.Private.NodeLayoutLend.{with_elision};
+ghost use Rattle.unparse_layout.specs.Bones.{bone_count};
 
 use crate::layout::Layout;
 use crate::node_layout::NodeLayout;

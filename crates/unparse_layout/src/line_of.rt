@@ -6,8 +6,8 @@ ghost use Rattle.template_tree.specs.Programs.PlainTree.{roomless_tree};
 ghost use Rattle.template_tree.specs.Positions.Stop.{IsStop, line_at, plain_stop};
 ghost use Rattle.template_tree.specs.Programs.Tree.{IsTree};
 ghost use Rattle.unparse_layout.specs.Agreement.{IsLayoutOf};
-ghost use Rattle.unparse_layout.specs.Private.Height.{bone_count};
 ghost use Rattle.unparse_layout.specs.Private.ItemLines.{lines_before};
+ghost use Rattle.unparse_layout.specs.Bones.{bone_count};
 
 use crate::layout::Layout;
 use crate::node_layout::NodeLayout;

@@ -39,7 +39,7 @@ impl<W: Work> Layout<W> {
 impl NodeLayout {
     /// Makes the node anew that a layout has for a node of the tree, before which a line of the table stands
     /// where `led`.
-    fn of(alloc: Global, node: &Node, led: bool) -> Result<NodeLayout, OutOfMemory>
+    pub(crate) fn of(alloc: Global, node: &Node, led: bool) -> Result<NodeLayout, OutOfMemory>
         requires few { count node.now.inner < most_slots }
         ensures { IfOk result (λ node_layout. node_layout ≡ node_layout_of led node.now) }
     {

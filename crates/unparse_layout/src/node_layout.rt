@@ -1,11 +1,11 @@
 //! What a layout keeps of a node and of the nodes inside it.
-ghost use Rattle.std.specs.Prelude.{◌≡◌, ◌+◌, ◌<◌, ◌^◌, ◌++◌, ◌∷◌, [], OnErr, OnOk, Some, None, length, option_map, slice_get, sum, map, false};
+ghost use Rattle.std.specs.Prelude.{◌≡◌, ◌+◌, ◌<◌, ◌≤◌, ◌^◌, ◌++◌, ◌∷◌, [], IfOk, OnErr, OnOk, Some, None, length, option_map, slice_get, sum, map, false, vec_capacity, vec_len};
 ghost use Rattle.std.specs.Borrow.{LendsIf, sem};
 ghost use Rattle.unparse_layout.specs.contracts.node_layout.NodeLayout as node_layout_row;
 ghost use Rattle.unparse_layout.specs.contracts.node_layout.NodeLayouts as list_row;
 ghost use Rattle.unparse_layout.specs.Bones.{PlainLayout};
 ghost use Rattle.unparse_layout.specs.Private.Height.{height, heights, line_count};
-ghost use Rattle.unparse_layout.specs.Private.NodeLayoutLend.{with_node_layout_set};
+ghost use Rattle.unparse_layout.specs.Private.NodeLayoutLend.{with_node_layout_inserted, with_node_layout_removed, with_node_layout_set};
 ghost use Rattle.unparse_layout.specs.Private.PlainNodeLayout.{node_layouts, with_last_node_layout};
 
 use plcs_base::{OutOfMemory, Slot};
@@ -176,4 +176,70 @@ impl NodeLayouts {
     {
         self.list.get_mut(k)
     }
+}
+
+impl NodeLayouts {
+    /// How many nodes a list of nodes of a layout has.
+    pub(crate) fn len(&self) -> usize
+        ensures { result ≡ length self.now.items }
+    {
+        self.list.len()
+    }
+
+    /// An empty list of nodes of a layout, with room for so many.
+    pub(crate) fn with_room(alloc: Global, room: usize) -> Result<NodeLayouts, OutOfMemory>
+        ensures items { IfOk result (λ list. list.items ≡ []) }
+        ensures room { IfOk result (λ list. room ≤ list.spare) }
+    {
+        let list = Vec::with_capacity(alloc, room)?;
+        Ok(NodeLayouts { list })
+    }
+
+    /// Moves the nodes of a list into the room of an empty one, which is the list then.
+    pub(crate) fn move_into(&mut self, room: NodeLayouts)
+        requires empty { room.items ≡ [] }
+        requires room { length self.old.items ≤ room.spare }
+        ensures items { self.new.items ≡ self.old.items }
+        ensures room { room.spare ≤ self.new.spare + length self.old.items }
+    {
+        let mut list = room.list;
+        append_reserved(&mut list, &mut self.list);
+        self.list = list;
+    }
+
+    /// Puts what a layout keeps of a node in the place of this number in a list.
+    pub(crate) fn put(&mut self, k: usize, item: NodeLayout)
+        requires there { k < length self.old.items }
+        ensures { self.new ≡ with_node_layout_set self.old k item }
+    {
+        self.list[k] = item;
+    }
+
+    /// Puts what a layout keeps of a node into a list before the one of this number, into the room that is there.
+    pub(crate) fn insert_within(&mut self, k: usize, item: NodeLayout)
+        requires there { k ≤ length self.old.items }
+        requires room { 0 < self.old.spare }
+        ensures { self.new ≡ with_node_layout_inserted self.old k item }
+    {
+        if let Err(_) = self.list.insert(k, item) {}
+    }
+
+    /// Takes what a layout keeps of the node of this number out of a list.
+    pub(crate) fn remove(&mut self, k: usize) -> NodeLayout
+        requires there { k < length self.old.items }
+        ensures taken { Some result ≡ slice_get self.old.items k }
+        ensures others { self.new ≡ with_node_layout_removed self.old k }
+    {
+        self.list.remove(k)
+    }
+}
+
+/// Moves the nodes of a list behind those of another one, in the room that it has.
+fn append_reserved(list: &mut Vec<NodeLayout>, others: &mut Vec<NodeLayout>)
+    requires room { vec_len list.old + vec_len others.old ≤ vec_capacity list.old }
+    ensures moved { list.new.items ≡ list.old.items ++ others.old.items }
+    ensures len { vec_len list.new ≡ vec_len list.old + vec_len others.old }
+    ensures room { vec_capacity list.old ≤ vec_capacity list.new }
+{
+    if let Err(_) = list.append(others) {}
 }

@@ -1,4 +1,4 @@
--- How many lines of the screen nodes have, and how many nodes a layout keeps.
+-- How many lines of the screen nodes of a layout have.
 use Rattle.std.specs.Prelude.{ℕ, Bool, ◌+◌, if◌then◌else◌, List, Option, Some, None}
 use Rattle.plcs_grammar.specs.Template.{row_of}
 use Rattle.unparse_layout.specs.Bones.{Bone, PlainLayout}
@@ -26,8 +26,3 @@ heights (PlainLayout.cons bone inner rest) = height_around bone (heights inner) 
 -- how many lines of the screen a node of a layout has, by what stands inside it
 abbrev pub height : PlainNodeLayout → ℕ
 height node_layout = height_around node_layout.bone (heights node_layout.inner)
-
--- how many nodes a layout keeps
-abbrev pub bone_count : PlainLayout → ℕ
-bone_count PlainLayout.nil = 0
-bone_count (PlainLayout.cons bone inner rest) = bone_count inner + bone_count rest + 1

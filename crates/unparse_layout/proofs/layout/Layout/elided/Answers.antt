@@ -2,9 +2,8 @@ use Rattle.std.specs.Prelude.{◌≡◌, refl}
 use Rattle.std.proofs.Common.{arith, ap, sym, ◌∙◌}
 use Rattle.plcs_grammar.specs.Template.{program_sections}
 use Rattle.template_tree.specs.Programs.PlainTree.{PlainTree}
-use Rattle.unparse_layout.specs.Bones.{bones_of}
+use Rattle.unparse_layout.specs.Bones.{bones_of, bone_count}
 use Rattle.unparse_layout.specs.Private.PlainNodeLayout.{PlainNodeLayout}
-use Rattle.unparse_layout.specs.Private.Height.{bone_count}
 use Rattle.unparse_layout.specs.Private.NodeLayoutLend.{with_elision}
 use Rattle.unparse_layout.proofs.Heights.{count_bones}
 use Rattle.unparse_layout.proofs.TurnedBones.{count_elision, layout_kept, turned_layout}

@@ -3,8 +3,7 @@ use Rattle.std.proofs.Common.{arith, ap, sym, ◌∙◌}
 use Rattle.plcs_grammar.specs.Template.{program_sections}
 use Rattle.template_tree.specs.Programs.PlainTree.{roomless}
 use Rattle.template_tree.specs.Positions.Stop.{plain_stop}
-use Rattle.unparse_layout.specs.Bones.{PlainLayout, bones_of}
-use Rattle.unparse_layout.specs.Private.Height.{bone_count}
+use Rattle.unparse_layout.specs.Bones.{PlainLayout, bones_of, bone_count}
 use Rattle.unparse_layout.specs.Private.ItemLines.{lines_before}
 use Rattle.unparse_layout.proofs.Heights.{count_bones, heights_le}
 use Rattle.unparse_layout.proofs.ListedLines.{line_of_stop, path_of_stop}

@@ -5,7 +5,8 @@ use Rattle.std.proofs.Common.{arith, ap, sym, ◌∙◌}
 use Rattle.std.proofs.lemmas.List.{length-map, map-set}
 use Rattle.std.proofs.lemmas.Option.{slice_get_within}
 use Rattle.unparse_layout.specs.Private.PlainNodeLayout.{PlainNodeLayout, node_layouts}
-use Rattle.unparse_layout.specs.Private.Height.{bone_count, height, heights}
+use Rattle.unparse_layout.specs.Bones.{bone_count}
+use Rattle.unparse_layout.specs.Private.Height.{height, heights}
 use Rattle.prefix_sums.specs.PlainPrefixSums.{PlainPrefixSums}
 use Rattle.unparse_layout.proofs.Heights.{height_le, heights_le, node_layout_few}
 use Rattle.unparse_layout.proofs.Opened.{found_again, numbers_sum}

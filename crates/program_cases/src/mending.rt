@@ -1,0 +1,143 @@
+//! Edits of a program, after each of which one layout is mended.
+ghost use Rattle.std.specs.Prelude.{◌≡◌, IfErr, IfOk, OnSome};
+ghost use Rattle.template_tree.specs.Edits.Edit.{Differs};
+ghost use Rattle.template_tree.specs.Programs.Tree.{IsTree};
+ghost use Rattle.unparse_layout.specs.Agreement.{IsLayoutOf};
+
+use crate::lines::same_lines;
+use crate::program::path_to;
+use case_script::{Told, meaning, number_of};
+use plcs_base::Counts;
+use std::alloc::Global;
+use template_tree::{Change, Path, Side, Tree, TreeFault};
+use unparse_layout::Layout;
+
+/// An edit of a program at a node, after which the layout is mended.
+#[derive(Clone, Copy)]
+enum Mending {
+    /// The node is taken out, and a hole stays.
+    Take,
+    /// A hole is added on this side of the item.
+    Add(Side),
+    /// The hole is dropped from its list.
+    Drop,
+}
+
+/// The edits after which the layout is mended, with their names.
+static MENDINGS: [(&[u8], Mending); 4] = [
+    (b"take", Mending::Take),
+    (b"before", Mending::Add(Side::Before)),
+    (b"after", Mending::Add(Side::After)),
+    (b"drop", Mending::Drop),
+];
+
+/// Edits the program: does at each slot what the last word before it names, and mends one layout each time.
+pub fn mend(alloc: Global, tree: &mut Tree, words: &[Vec<u8>], told: &mut Told) -> Option<()>
+    requires { IsTree tree.old }
+    ensures { IsTree tree.new }
+{
+    let mut layout = Layout::new(alloc, tree).ok()?;
+    mend_each(alloc, &mut layout, tree, words, told)
+}
+
+/// Edits a program that was read: does at each slot what the last word before it names, and mends this layout.
+fn mend_each(
+    alloc: Global,
+    layout: &mut Layout<Counts>,
+    tree: &mut Tree,
+    words: &[Vec<u8>],
+    told: &mut Told,
+) -> Option<()>
+    requires tree { IsTree tree.old }
+    requires agrees { IsLayoutOf layout.old tree.old }
+    ensures { IsTree tree.new }
+{
+    let mut mending = Mending::Take;
+    for word in words {
+        match meaning(&MENDINGS, word.as_slice()) {
+            Some(named) => mending = named,
+            None => {
+                let slot = number_of(word.as_slice())?;
+                tell_mended(alloc, layout, tree, mending, slot, told)?;
+            }
+        }
+    }
+    Some(())
+}
+
+/// Edits the program at the slot and mends the layout, and tells the fault, if there is one, how many lines there are
+/// now, and whether a layout that is made anew has the same.
+fn tell_mended(
+    alloc: Global,
+    layout: &mut Layout<Counts>,
+    tree: &mut Tree,
+    mending: Mending,
+    slot: u32,
+    told: &mut Told,
+) -> Option<()>
+    requires tree { IsTree tree.old }
+    requires agrees { IsLayoutOf layout.old tree.old }
+    ensures tree { IsTree tree.new }
+    ensures agrees { OnSome result (IsLayoutOf layout.new tree.new) }
+{
+    let path = path_to(tree, slot);
+    let fault = edit_and_mend(alloc, layout, tree, mending, &path)?;
+    told.value(&fault);
+    told.text(", ");
+    told.value(&layout.lines());
+    told.text(" lines, same as made anew: ");
+    told.value_line(&same_lines(alloc, layout, tree)?);
+    Some(())
+}
+
+/// Edits the program at the path and mends the layout, or tells why the edit is refused; `None` where there is no
+/// memory for the layout.
+fn edit_and_mend(
+    alloc: Global,
+    layout: &mut Layout<Counts>,
+    tree: &mut Tree,
+    mending: Mending,
+    path: &Path,
+) -> Option<Option<TreeFault>>
+    requires tree { IsTree tree.old }
+    requires agrees { IsLayoutOf layout.old tree.old }
+    ensures tree { IsTree tree.new }
+    ensures agrees { OnSome result (IsLayoutOf layout.new tree.new) }
+{
+    match edited(alloc, tree, mending, path) {
+        Ok(change) => {
+            let prepared = layout.prepare(alloc, tree, &change).ok()?;
+            layout.commit(prepared);
+            Some(None)
+        }
+        Err(fault) => Some(Some(fault)),
+    }
+}
+
+/// Edits the program at the path, and tells what was changed.
+fn edited(
+    alloc: Global,
+    tree: &mut Tree,
+    mending: Mending,
+    path: &Path,
+) -> Result<Change, TreeFault>
+    requires tree { IsTree tree.old }
+    ensures tree { IsTree tree.new }
+    ensures edited { IfOk result (Differs tree.old tree.new) }
+    ensures refused { IfErr result (λ _. tree.new ≡ tree.old) }
+{
+    match mending {
+        Mending::Take => {
+            let (_, receipt) = tree.take(alloc, path)?;
+            Ok(receipt.change())
+        }
+        Mending::Add(side) => {
+            let receipt = tree.add_hole(alloc, path, side)?;
+            Ok(receipt.change())
+        }
+        Mending::Drop => {
+            let receipt = tree.drop_hole(path)?;
+            Ok(receipt.change())
+        }
+    }
+}
