@@ -8,7 +8,7 @@ use session_words::{
 };
 
 /// The refusals of which the message has no number, as cases name them.
-static REFUSALS: [RefusalMessage; 19] = [
+static REFUSALS: [RefusalMessage; 20] = [
     RefusalMessage::UnknownCommand,
     RefusalMessage::NotHere,
     RefusalMessage::NoClip,
@@ -28,6 +28,7 @@ static REFUSALS: [RefusalMessage; 19] = [
     RefusalMessage::PhraseFull,
     RefusalMessage::FloatNotThere,
     RefusalMessage::AtEdge,
+    RefusalMessage::NothingToUndo,
 ];
 
 /// The notices, as cases on messages name them.

@@ -89,7 +89,7 @@ pub code_asks_items : CodeAsksItems
 code_asks_items marks items others program same =
     sym (codes_of_content marks items items (λ slot. refl) program) ∙ codes_of_content marks items others same program
 
-code_of_content : (marks : MarkMap) (items : ItemMap) (one other : Forest) → content one ≡ content other → Gen marks items one ≡ Gen marks items other
+pub code_of_content : (marks : MarkMap) (items : ItemMap) (one other : Forest) → content one ≡ content other → Gen marks items one ≡ Gen marks items other
 code_of_content marks items one other e =
     sym (codes_of_content marks items items (λ slot. refl) one)
     ∙ ap (λ (program : Forest). Gen marks items program) e

@@ -1,7 +1,7 @@
 -- The content of a program: all of it but room and elision. A turned comment keeps it.
 use Rattle.std.proofs.Common.{◌≡◌, ℕ, zero, suc, Bool, true, false, List, [], ◌∷◌, refl, ap, ◌∙◌}
 use Rattle.std.specs.Prelude.{if◌then◌else◌, not}
-use Rattle.template_tree.specs.Edits.Edit.{edit_at, edit_below, give_way}
+use Rattle.template_tree.specs.Edits.Edit.{edit_at, edit_below, give_way, whole}
 use Rattle.template_tree.specs.Edits.Elision.{is_comment, toggled}
 use Rattle.template_tree.specs.Programs.PlainTree.{Forest, PlainNode, forest, join, roomless}
 
@@ -18,6 +18,12 @@ pub content_roomless : (items : Forest) → content (roomless items) ≡ content
 content_roomless Forest.nil = refl
 content_roomless (Forest.cons label inner rest) =
     λ i. Forest.cons (record label { elided = false; spare = 0 }) (content_roomless inner i) (content_roomless rest i)
+
+-- that is the nodes with nothing elided, without room
+pub content_shown : (items : Forest) → roomless (whole items) ≡ content items
+content_shown Forest.nil = refl
+content_shown (Forest.cons label inner rest) =
+    λ i. Forest.cons (record label { elided = false; spare = 0 }) (content_shown inner i) (content_shown rest i)
 
 -- a change of an item that keeps its content, and gives one item
 record Keeps (change : PlainNode → List PlainNode) : Type 0 where

@@ -10,11 +10,12 @@ use Rattle.template_tree.specs.Checks.Environment.{items_inside, procedure_at}
 use Rattle.template_tree.specs.Checks.Marks.{Verdicts, offences}
 use Rattle.template_tree.specs.Edits.Edit.{edit_at}
 use Rattle.template_tree.specs.Edits.Elision.{toggled}
-use Rattle.template_tree.specs.Laws.CheckLaws.{CheckAlike, ChecksIgnoreElision, ChecksIgnoreRoom}
+use Rattle.template_tree.specs.Laws.CheckLaws.{CheckAlike, ChecksIgnoreAllElision, ChecksIgnoreElision, ChecksIgnoreRoom}
 use Rattle.template_tree.specs.Programs.PlainTree.{Forest, PlainNode, nodes, roomless}
 use Rattle.plcs_code.specs.Gen.{Gen}
-use Rattle.plcs_code.specs.ProgramCode.{CodeIsOfProgram, ProgramCodeIgnoresElision, ProgramCodeIgnoresRoom, ProgramItemsTell, program_code, program_items}
-use Rattle.plcs_code.proofs.AlikeCodes.{code_asks_items, code_ignores_elision, code_ignores_room}
+use Rattle.plcs_code.specs.ProgramCode.{CodeIsOfProgram, ProgramCodeIgnoresAllElision, ProgramCodeIgnoresElision, ProgramCodeIgnoresRoom, ProgramItemsTell, program_code, program_items}
+use Rattle.plcs_code.proofs.AlikeCodes.{code_asks_items, code_ignores_elision, code_ignores_room, code_of_content}
+use Rattle.plcs_code.proofs.Contents.{content_shown}
 use Rattle.plcs_code.proofs.KeyOrder.{nat_ties}
 
 -- ---- the items of a program
@@ -65,3 +66,9 @@ pub program_code_ignores_elision : ChecksIgnoreElision → ProgramCodeIgnoresEli
 program_code_ignores_elision checks program path =
     code_ignores_elision (offences (Verdicts (edit_at toggled path program))) (program_items (edit_at toggled path program)) program path
     ∙ alike_code (edit_at toggled path program) program (checks program path)
+
+pub program_code_ignores_all_elision : ChecksIgnoreAllElision → ProgramCodeIgnoresAllElision
+program_code_ignores_all_elision checks one other same =
+    code_of_content (offences (Verdicts one)) (program_items one) one other
+    (sym (content_shown one) ∙ (same ∙ content_shown other))
+    ∙ alike_code one other (checks one other same)

@@ -6,7 +6,7 @@ use Rattle.plcs_base.specs.Scope.{ItemMap}
 use Rattle.template_tree.specs.Checks.Environment.{items_inside}
 use Rattle.template_tree.specs.Checks.Marks.{Marks}
 use Rattle.template_tree.specs.Checks.ProgramMaps.{MarksTell, ScopeTells, items_in}
-use Rattle.template_tree.specs.Edits.Edit.{edit_at}
+use Rattle.template_tree.specs.Edits.Edit.{edit_at, whole}
 use Rattle.template_tree.specs.Edits.Elision.{toggled}
 use Rattle.template_tree.specs.Programs.PlainTree.{Forest, nodes, roomless}
 use Rattle.plcs_code.specs.Gen.{Gen, PlainCode}
@@ -59,3 +59,8 @@ ProgramCodeIgnoresRoom = (program : Forest) → program_code (roomless program) 
 abbrev pub ProgramCodeIgnoresElision : Type 0
 ProgramCodeIgnoresElision =
     (program : Forest) (path : List ℕ) → program_code (edit_at toggled path program) ≡ program_code program
+
+-- programs that are the same but for what is elided, and for room, have the same code
+abbrev pub ProgramCodeIgnoresAllElision : Type 0
+ProgramCodeIgnoresAllElision =
+    (one other : Forest) → roomless (whole one) ≡ roomless (whole other) → program_code one ≡ program_code other

@@ -1,7 +1,7 @@
 //! The laws of code, each a function that does nothing and whose contract states it.
 ghost use Rattle.plcs_code.specs.CodeLaws.{AddressesHoldSteps, CallsComeBack, EntriesAreHeadings, EntriesBeginProcedures, JumpsStayInNodes, JumpsStayInside, LengthsAreTold, OwnCodesAddUp, OwnCodesAreTold, OwnLengthsStay, PassedStartsStand, PlacesHaveAddresses, SpansHoldCode};
 ghost use Rattle.plcs_code.specs.Landing.{BodiesBegin, SecondBodiesBegin, StatementsGoOn, StepsHaveAddresses};
-ghost use Rattle.plcs_code.specs.ProgramCode.{CodeAsksItems, CodeIgnoresElision, CodeIgnoresRoom, CodeIsOfProgram, ProgramCodeIgnoresElision, ProgramCodeIgnoresRoom, ProgramItemsTell};
+ghost use Rattle.plcs_code.specs.ProgramCode.{CodeAsksItems, CodeIgnoresElision, CodeIgnoresRoom, CodeIsOfProgram, ProgramCodeIgnoresAllElision, ProgramCodeIgnoresElision, ProgramCodeIgnoresRoom, ProgramItemsTell};
 
 use template_tree::checks_ignore_room_and_elision;
 
@@ -82,6 +82,7 @@ pub fn programs_have_one_code()
     ensures made { CodeIsOfProgram }
     ensures room { ProgramCodeIgnoresRoom }
     ensures elision { ProgramCodeIgnoresElision }
+    ensures all_elision { ProgramCodeIgnoresAllElision }
 {
     checks_ignore_room_and_elision();
 }

@@ -24,7 +24,7 @@ pub fn on(alloc: Global, scene: &mut Scene, keys: &[u8]) -> Option<()> {
 }
 
 /// Refusals that are shown in a session, and the words that name them.
-static REFUSALS: [(&[u8], Refusal); 24] = [
+static REFUSALS: [(&[u8], Refusal); 25] = [
     (b"UnknownCommand", Refusal::UnknownCommand),
     (b"NotHere", Refusal::NotHere),
     (b"Syntax", Refusal::Phrase(PhraseFault::Syntax(0))),
@@ -58,6 +58,7 @@ static REFUSALS: [(&[u8], Refusal); 24] = [
     (b"NoRun", Refusal::NoRun),
     (b"RunEnded", Refusal::RunEnded),
     (b"NoHistory", Refusal::NoHistory),
+    (b"NothingToUndo", Refusal::NothingToUndo),
 ];
 
 /// `tell REFUSAL`: what painting writes once a session, in which the keys at hand were pressed key by key,

@@ -86,6 +86,8 @@ applied_is room outcome one other slot before after receipt back stop at edit sa
       change = room.changes before after receipt.change edit.differs;
       undoes = edit.undoes;
       can_undo = edit.can_undo;
+      can_revert = edit.can_revert;
+      drawn = edit.drawn;
       subtree = sound;
     }
 

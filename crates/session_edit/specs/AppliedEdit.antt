@@ -1,10 +1,11 @@
 -- What is answered to an edit at the stop of the cursor.
-use Rattle.std.specs.Prelude.{◌≡◌, Bool, true, false, IsTrue, IfSome, is_none, option_map, Result, Ok, Err}
+use Rattle.std.specs.Prelude.{◌≡◌, ◌≤◌, Bool, true, false, IsTrue, IfSome, is_none, option_map, Result, Ok, Err}
 use Rattle.template_tree.specs.declared.tree_fault.TreeFault.{TreeFault}
 use Rattle.template_tree.specs.Edits.Edit.{Differs}
 use Rattle.template_tree.specs.Programs.PlainTree.{PlainTree, roomless_node, roomless_tree}
 use Rattle.template_tree.specs.Programs.Program.{IsSubtree}
 use Rattle.template_tree.specs.Edits.Receipt.{CanUndo, undone}
+use Rattle.template_tree.specs.Edits.Reversal.{CanRevert}
 use Rattle.template_tree.specs.Positions.Stop.{IsStop, PlainStop, plain_stop}
 use Rattle.template_tree.specs.Programs.Tree.{IsTree}
 use Rattle.session_edit.specs.declared.applied.Applied.{Applied}
@@ -12,7 +13,7 @@ use Rattle.session_edit.specs.PlainEdit.{PlainEdit}
 use Rattle.session_edit.specs.Edited.{Edited}
 
 -- an edit made one tree of the other, as was to come of it, with the cursor at a stop of the tree after it; the receipt
--- names what was done in which slot, and undoes it
+-- names what was done in which slot, undoes it, and reverts it
 pub record IsApplied (outcome : Edited) (before after : PlainTree) (applied : Applied) : Type 0 where
   pub became :
       outcome
@@ -23,6 +24,8 @@ pub record IsApplied (outcome : Edited) (before after : PlainTree) (applied : Ap
   pub change : Differs (roomless_tree before) (roomless_tree after) applied.receipt.change
   pub undoes : undone applied.receipt applied.taken (roomless_tree after) ≡ roomless_tree before
   pub can_undo : CanUndo applied.receipt applied.taken after
+  pub can_revert : CanRevert applied.receipt applied.taken (roomless_tree after)
+  pub drawn : before.drawn ≤ after.drawn
   pub subtree : IfSome applied.taken IsSubtree
 
 -- whether the edit takes memory at a stop: a phrase in a part, a fragment, and what is deleted or taken out take none

@@ -28,6 +28,7 @@ other_commands =
     ∷ command_row (codes "copy") (argument.name command.copy)
     ∷ command_row (codes "insert") (argument.name command.insert)
     ∷ command_row (codes "elide") (argument.nothing command.elide)
+    ∷ command_row (codes "undo") (argument.nothing command.undo)
     ∷ command_row (codes "top") (argument.nothing command.top)
     ∷ command_row (codes "bottom") (argument.nothing command.bottom)
     ∷ command_row (codes "run") (argument.nothing command.run)

@@ -50,6 +50,7 @@ refusal_row refusal.WrongArgument = plain_row_of_words 11 (codes "WRONG ARGUMENT
 refusal_row refusal.PhraseFull = plain_row_of_words 12 (codes "PHRASE FULL")
 refusal_row refusal.FloatNotThere = plain_row_of_words 13 (codes "FLOAT NOT THERE")
 refusal_row refusal.AtEdge = plain_row_of_words 14 (codes "AT EDGE")
+refusal_row refusal.NothingToUndo = plain_row_of_words 16 (codes "NOTHING TO UNDO")
 
 -- the words of each notice, which says what came of a key that was taken
 abbrev pub notice_words : NoticeKind → List ℕ

@@ -16,6 +16,7 @@ pub data PlainCommand : Type 0 where
   copy : List ℕ → PlainCommand
   insert : List ℕ → PlainCommand
   elide : PlainCommand
+  undo : PlainCommand
   top : PlainCommand
   bottom : PlainCommand
   run : PlainCommand
@@ -40,6 +41,7 @@ plain_command (asked.Cut name) = PlainCommand.cut name
 plain_command (asked.Copy name) = PlainCommand.copy name
 plain_command (asked.Insert name) = PlainCommand.insert name
 plain_command asked.Elide = PlainCommand.elide
+plain_command asked.Undo = PlainCommand.undo
 plain_command asked.Top = PlainCommand.top
 plain_command asked.Bottom = PlainCommand.bottom
 plain_command asked.Run = PlainCommand.run

@@ -50,6 +50,8 @@ pub enum Alone {
     Del,
     /// `Command::Elide`
     Elide,
+    /// `Command::Undo`
+    Undo,
     /// `Command::Top`
     Top,
     /// `Command::Bottom`
@@ -141,6 +143,7 @@ impl Alone {
             Alone::After => Command::After,
             Alone::Del => Command::Del,
             Alone::Elide => Command::Elide,
+            Alone::Undo => Command::Undo,
             Alone::Top => Command::Top,
             Alone::Bottom => Command::Bottom,
             Alone::Run => Command::Run,

@@ -30,6 +30,8 @@ pub enum Command<'a> {
     Insert(Name),
     /// Turn the elision of the comment at the cursor.
     Elide,
+    /// Take the newest edit back that is kept.
+    Undo,
     /// Go to the first stop.
     Top,
     /// Go to the last stop.

@@ -38,7 +38,7 @@ const INSTRUCTIONS: Range = Range {
 };
 
 /// The table of the commands that fill in no template.
-const COMMANDS: [CommandRow; 20] = [
+const COMMANDS: [CommandRow; 21] = [
     CommandRow {
         word: b"float",
         rule: ArgumentRule::Nothing(Alone::Float),
@@ -70,6 +70,10 @@ const COMMANDS: [CommandRow; 20] = [
     CommandRow {
         word: b"elide",
         rule: ArgumentRule::Nothing(Alone::Elide),
+    },
+    CommandRow {
+        word: b"undo",
+        rule: ArgumentRule::Nothing(Alone::Undo),
     },
     CommandRow {
         word: b"top",

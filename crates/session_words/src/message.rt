@@ -69,6 +69,8 @@ pub enum RefusalMessage {
     FloatNotThere,
     /// There is no stop in that direction.
     AtEdge,
+    /// No edit is held that could be undone.
+    NothingToUndo,
 }
 
 /// The messages that are notices: what came of a key that was taken.
@@ -151,7 +153,7 @@ impl Message {
 }
 
 impl RefusalMessage {
-    /// The number of the kind of a refusal's message, from 1 to 14.
+    /// The number of the kind of a refusal's message, from 1 to 14, or 16.
     pub fn number(self) -> u8
         ensures { result ≡ (refusal_row self).number }
     {
@@ -192,6 +194,7 @@ impl RefusalMessage {
             RefusalMessage::PhraseFull => row_of(12, b"PHRASE FULL"),
             RefusalMessage::FloatNotThere => row_of(13, b"FLOAT NOT THERE"),
             RefusalMessage::AtEdge => row_of(14, b"AT EDGE"),
+            RefusalMessage::NothingToUndo => row_of(16, b"NOTHING TO UNDO"),
         }
     }
 }

@@ -1,6 +1,8 @@
 -- A session whose next screen was drawn, with lines of its program that came to be held.
-use Rattle.std.proofs.Common.{◌≡◌, ap, sym, subst, ◌∙◌, option_map}
+use Rattle.std.proofs.Common.{◌≡◌, List, ap, sym, subst, ◌∙◌, option_map}
 use Rattle.template_tree.specs.Programs.PlainTree.{PlainTree, roomless_tree}
+use Rattle.edit_undo.specs.EarlierTree.{trees_before}
+use Rattle.edit_undo.specs.declared.edit_record.EditRecord.{EditRecord}
 use Rattle.screen_window.specs.PlainGrid.{PlainGrid}
 use Rattle.synth_session.specs.declared.program.Dependents.{Dependents}
 use Rattle.synth_session.specs.declared.program.Program.{Program}
@@ -8,8 +10,13 @@ use Rattle.synth_session.specs.declared.session.Session.{Session}
 use Rattle.synth_session.specs.PlainHeldRun.{PlainHeldRun}
 use Rattle.synth_session.specs.PlainScreens.{PlainScreens}
 use Rattle.synth_session.specs.ProgramCode.{code_of}
-use Rattle.synth_session.specs.SessionView.{Agrees, HasFittingRun, HasProgramCode, IsPlaced, IsSeen, IsSession, plain_run, plain_session}
+use Rattle.synth_session.specs.SessionView.{Agrees, EditsFit, HasFittingEdits, HasFittingRun, HasProgramCode, IsPlaced, IsSeen, IsSession, plain_run, plain_session}
 use Rattle.synth_session.proofs.KeptRuns.{MayGoOnIfStands}
+
+-- the run that is held, if one stands, may be asked whether it goes on in the program to which these edits led
+abbrev MayGoOnAfter : PlainTree → List EditRecord → PlainHeldRun → Type 0
+MayGoOnAfter tree edits held =
+    MayGoOnIfStands (roomless_tree tree) (trees_before edits (roomless_tree tree)) held.undos held.run
 
 module _ {W : Type 0} where
   -- with another screen to be painted next, and a program of the same tree, a session is seen the same
@@ -17,8 +24,11 @@ module _ {W : Type 0} where
       → screens.shown ≡ s.screens.shown → plain_session (record s { screens = screens; program = program }) ≡ plain_session s
   drawn_same s screens program tree shown =
       ap (λ (t : PlainTree).
-      record (plain_session (record s { screens = screens }))
-      { tree = roomless_tree t; run = option_map (plain_run (roomless_tree t).items s.run.undos) s.run.run }) tree
+      record (plain_session (record s { screens = screens })) {
+        tree = roomless_tree t;
+        run = option_map (plain_run (roomless_tree t).items s.run.undos) s.run.run;
+        earlier = trees_before s.edits (roomless_tree t);
+      }) tree
       ∙ ap (λ (g : PlainGrid). record (plain_session s) { size = record { rows = g.rows; cols = g.cols } }) shown
 
   -- one that is seen the same keeps the conditions between its parts, where its program agrees
@@ -36,8 +46,17 @@ module _ {W : Type 0} where
   drawn_code old now tree dependents code =
       ap (λ (d : Dependents W). d.code) dependents ∙ code ∙ sym (ap (λ (t : PlainTree). code_of (roomless_tree t)) tree)
 
-  -- and its run may go on as before
-  pub drawn_run : (old now : Session W) → now.program.tree ≡ old.program.tree → now.run ≡ old.run → HasFittingRun old → HasFittingRun now
-  drawn_run old now tree run fits =
-      subst (λ (r : PlainHeldRun). MayGoOnIfStands (roomless_tree now.program.tree) r.undos r.run) (sym run)
-      (subst (λ (t : PlainTree). MayGoOnIfStands (roomless_tree t) old.run.undos old.run.run) (sym tree) fits)
+  -- its run may go on as before
+  pub drawn_run : (old now : Session W) → now.program.tree ≡ old.program.tree → now.run ≡ old.run → now.edits ≡ old.edits
+      → HasFittingRun old → HasFittingRun now
+  drawn_run old now tree run edits fits =
+      subst (λ (e : List EditRecord). MayGoOnAfter now.program.tree e now.run) (sym edits)
+      (subst (λ (r : PlainHeldRun). MayGoOnAfter now.program.tree old.edits r) (sym run)
+      (subst (λ (t : PlainTree). MayGoOnAfter t old.edits old.run) (sym tree) fits))
+
+  -- and its edits can be undone as before
+  pub drawn_edits : (old now : Session W) → now.program.tree ≡ old.program.tree → now.edits ≡ old.edits → HasFittingEdits old
+      → HasFittingEdits now
+  drawn_edits old now tree edits fit =
+      subst (λ (e : List EditRecord). EditsFit e (roomless_tree now.program.tree)) (sym edits)
+      (subst (λ (t : PlainTree). EditsFit old.edits (roomless_tree t)) (sym tree) fit)

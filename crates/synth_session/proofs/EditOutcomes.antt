@@ -21,7 +21,8 @@ use Rattle.synth_session.specs.KeyOutcome.{KeyOutcome, refusal_outcome}
 use Rattle.synth_session.specs.PlainSession.{PlainSession}
 use Rattle.synth_session.specs.Private.Faults.{CountsEdit, IsEditFault}
 use Rattle.synth_session.specs.Private.MemorylessKey.{HasOutcome}
-use Rattle.synth_session.specs.SessionView.{Agrees, Does, HasCode, IsReadyForKey, plain_run, plain_session}
+use Rattle.edit_undo.specs.EarlierTree.{trees_before}
+use Rattle.synth_session.specs.SessionView.{Agrees, Does, EditsFit, HasCode, IsReadyForKey, plain_run, plain_session}
 use Rattle.synth_session.proofs.CountedPrograms.{key_counted, key_free}
 use Rattle.synth_session.proofs.KeptRuns.{MayGoOnIfStands}
 use Rattle.synth_session.proofs.WantedCounts.{want_counted, want_free}
@@ -73,7 +74,14 @@ module _ {W : Type 0} where
   pub seen_without_room : (s : Session W) (program : Program W) → roomless_tree program.tree ≡ roomless_tree s.program.tree
       → plain_session (record s { program = program }) ≡ plain_session s
   seen_without_room s program same =
-      ap (λ (t : PlainTree). record (plain_session s) { tree = t; run = option_map (plain_run t.items s.run.undos) s.run.run }) same
+      ap
+      (λ (t : PlainTree).
+      record (plain_session s) {
+        tree = t;
+        run = option_map (plain_run t.items s.run.undos) s.run.run;
+        earlier = trees_before s.edits t;
+      })
+      same
 
   -- and keeps its conditions, where what depends on the program is that of the program
   pub ready_without_room : (s : Session W) (program : Program W) → Agrees program → (HasCode s.program → HasCode program)
@@ -93,7 +101,8 @@ module _ {W : Type 0} where
           };
         };
         code = code ready.code;
-        run = subst (λ (t : PlainTree). MayGoOnIfStands t s.run.undos s.run.run) back ready.run;
+        run = subst (λ (t : PlainTree). MayGoOnIfStands t (trees_before s.edits t) s.run.undos s.run.run) back ready.run;
+        edits = subst (EditsFit s.edits) back ready.edits;
       }
 
 -- ---- what is counted

@@ -1,6 +1,7 @@
 -- The run that a session holds may go on, where a key begins it, takes steps of it back, or lets go of its earlier
 -- configurations.
 use Rattle.std.proofs.Common.{◌≡◌, ℕ, ◌-◌, false, List, [], ◌∷◌, length, min, Option, Some, None, refl, sym, ap, subst, ◌∙◌}
+use Rattle.std.proofs.Math.Bool.{false≢true}
 use Rattle.std.specs.Prelude.{IfSome, IsSome, is_some, option_map, unwrap_or}
 use Rattle.std.proofs.lemmas.List.Elements.{All-drop, All-head, All-nil, All-tail}
 use Rattle.std.specs.List.{All}
@@ -23,6 +24,7 @@ use Rattle.plcs_code.specs.ProgramCode.{ProgramItemsTell, program_items}
 use Rattle.plcs_machine.specs.Enter.{Enter}
 use Rattle.plcs_machine.specs.Fetched.{result_of}
 use Rattle.plcs_machine.specs.MachineLaws.{CodeBeginsAsTree}
+use Rattle.edit_undo.specs.EarlierTree.{EarlierTree}
 use Rattle.suspend_state.specs.Suspension.{paused}
 use Rattle.synth_session.specs.PlainHeldRun.{PlainHeldRun}
 use Rattle.synth_session.specs.PlainRun.{PlainRun, without_earlier}
@@ -32,34 +34,57 @@ use Rattle.synth_session.specs.Private.HeldRunKept.{WentBack, WentBackIfStands}
 use Rattle.synth_session.specs.SessionView.{CameToStand, MayGoOn, plain_run}
 
 -- the run that is held, if one is, may go on in the tree
-abbrev pub FitsHeld : PlainTree → List Undo → Option Run → Type 0
-FitsHeld tree undos held = IfSome held (λ run. MayGoOn tree (is_some run.kept) (plain_run tree.items undos run))
+abbrev pub FitsHeld : PlainTree → List EarlierTree → List Undo → Option Run → Type 0
+FitsHeld tree earlier undos held = IfSome held (λ run. MayGoOn tree earlier (is_some run.kept) (plain_run tree.items undos run))
 
 -- ---- a run without its earlier configurations
 
-came_to_stand : (tree : PlainTree) (run : PlainRun) → CameToStand tree run → CameToStand tree (without_earlier run)
-came_to_stand tree run stood =
-    record { before = stood.before; is_tree = stood.is_tree; edits = stood.edits; fits = stood.fits; kept = stood.kept }
+came_to_stand : (tree : PlainTree) (earlier : List EarlierTree) (run : PlainRun) → CameToStand tree earlier run
+    → CameToStand tree earlier (without_earlier run)
+came_to_stand tree earlier run stood =
+    record {
+      before = stood.before;
+      is_tree = stood.is_tree;
+      agrees = stood.agrees;
+      earlier_agree = stood.earlier_agree;
+      fits = stood.fits;
+      kept = stood.kept;
+    }
 
-pub forgotten_held : (tree : PlainTree) (undos undos_now : List Undo) (held now : Option Run) → now ≡ held → undos_now ≡ []
-    → FitsHeld tree undos held → FitsHeld tree undos_now now
-forgotten_held tree undos undos_now held now same none fits =
-    subst (λ (u : List Undo). FitsHeld tree u now) (sym none) (subst (λ (h : Option Run). FitsHeld tree [] h) (sym same) (by held fits))
+pub forgotten_held : (tree : PlainTree) (earlier : List EarlierTree) (undos undos_now : List Undo) (held now : Option Run) → now ≡ held → undos_now ≡ []
+    → FitsHeld tree earlier undos held → FitsHeld tree earlier undos_now now
+forgotten_held tree earlier undos undos_now held now same none fits =
+    subst (λ (u : List Undo). FitsHeld tree earlier u now) (sym none)
+    (subst (λ (h : Option Run). FitsHeld tree earlier [] h) (sym same) (by held fits))
   where
-    by : (held : Option Run) → FitsHeld tree undos held → FitsHeld tree [] held
+    by : (held : Option Run) → FitsHeld tree earlier undos held → FitsHeld tree earlier [] held
     by None fits = tt
     by (Some run) fits =
         record {
           unkept = fits.unkept;
-          stood = λ kept. came_to_stand tree (plain_run tree.items undos run) (fits.stood kept);
+          stood = λ kept. came_to_stand tree earlier (plain_run tree.items undos run) (fits.stood kept);
           earlier = All-nil (Fits tree.items);
           with_earlier = λ some. absurd (some refl);
         }
 
+-- the run that came to stand, and keeps what is asked for when it goes on, may once its earlier configurations are
+-- let go of
+pub forgotten_may : (tree : PlainTree) (earlier : List EarlierTree) (undos : List Undo) (held : Option Run)
+    → IfSome held (λ run. IsSome run.kept) → IfSome held (λ run. CameToStand tree earlier (plain_run tree.items undos run))
+    → FitsHeld tree earlier [] held
+forgotten_may tree earlier undos None kept stood = tt
+forgotten_may tree earlier undos (Some run) kept stood =
+    record {
+      unkept = λ unkept. absurd (false≢true (sym unkept ∙ kept));
+      stood = λ _. came_to_stand tree earlier (plain_run tree.items undos run) stood;
+      earlier = All-nil (Fits tree.items);
+      with_earlier = λ some. absurd (some refl);
+    }
+
 -- ---- a run of which steps are taken back
 
-module _ (tree : PlainTree) (run back : Run) (undos undos_now : List Undo) (steps : ℕ)
-    (fits : MayGoOn tree (is_some run.kept) (plain_run tree.items undos run)) (went : WentBack steps undos undos_now run back) where
+module _ (tree : PlainTree) (earlier : List EarlierTree) (run back : Run) (undos undos_now : List Undo) (steps : ℕ)
+    (fits : MayGoOn tree earlier (is_some run.kept) (plain_run tree.items undos run)) (went : WentBack steps undos undos_now run back) where
   -- the configuration to which it goes back fits the tree, and so do those before it
   left_fit : All (Fits tree.items) (plain_configuration back.state ∷ configurations_before undos_now (plain_configuration back.state))
   left_fit =
@@ -67,7 +92,7 @@ module _ (tree : PlainTree) (run back : Run) (undos undos_now : List Undo) (step
       (All-drop (Fits tree.items) (min steps (length (configurations_before undos (plain_configuration run.state))) - 1)
       (configurations_before undos (plain_configuration run.state)) fits.earlier)
 
-  run_back_fits : MayGoOn tree (is_some back.kept) (plain_run tree.items undos_now back)
+  run_back_fits : MayGoOn tree earlier (is_some back.kept) (plain_run tree.items undos_now back)
   run_back_fits =
       let there = All-head (Fits tree.items) (plain_configuration back.state) (configurations_before undos_now (plain_configuration back.state)) left_fit in
       let none : is_some back.kept ≡ false = ap is_some went.dropped in
@@ -78,24 +103,25 @@ module _ (tree : PlainTree) (run back : Run) (undos undos_now : List Undo) (step
         with_earlier = λ _. there;
       }
 
-pub back_held : (tree : PlainTree) (undos undos_now : List Undo) (steps : ℕ) (held now : Option Run)
-    → WentBackIfStands steps undos undos_now held now → FitsHeld tree undos held → FitsHeld tree undos_now now
-back_held tree undos undos_now steps None now went fits = absurd went
-back_held tree undos undos_now steps (Some run) now went fits =
-    subst (FitsHeld tree undos_now) (sym went.1) (run_back_fits tree run went.0 undos undos_now steps fits went.2)
+pub back_held : (tree : PlainTree) (earlier : List EarlierTree) (undos undos_now : List Undo) (steps : ℕ) (held now : Option Run)
+    → WentBackIfStands steps undos undos_now held now → FitsHeld tree earlier undos held → FitsHeld tree earlier undos_now now
+back_held tree earlier undos undos_now steps None now went fits = absurd went
+back_held tree earlier undos undos_now steps (Some run) now went fits =
+    subst (FitsHeld tree earlier undos_now) (sym went.1) (run_back_fits tree earlier run went.0 undos undos_now steps fits went.2)
 
 -- the same run in the same tree
-pub same_held : (tree tree_now : PlainTree) (held now : PlainHeldRun) → tree_now ≡ tree → now ≡ held → FitsHeld tree held.undos held.run
-    → FitsHeld tree_now now.undos now.run
-same_held tree tree_now held now same_tree same fits =
-    subst (λ (t : PlainTree). FitsHeld t now.undos now.run) (sym same_tree)
-    (subst (λ (h : PlainHeldRun). FitsHeld tree h.undos h.run) (sym same) fits)
+pub same_held : (tree tree_now : PlainTree) (earlier : List EarlierTree) (held now : PlainHeldRun) → tree_now ≡ tree → now ≡ held
+    → FitsHeld tree earlier held.undos held.run → FitsHeld tree_now earlier now.undos now.run
+same_held tree tree_now earlier held now same_tree same fits =
+    subst (λ (t : PlainTree). FitsHeld t earlier now.undos now.run) (sym same_tree)
+    (subst (λ (h : PlainHeldRun). FitsHeld tree earlier h.undos h.run) (sym same) fits)
 
 -- ---- a run that begins
 
 -- a run of which nothing is kept that fits the tree, and has no earlier configuration
-alone_fits : (tree : PlainTree) (state : RunState) → Fits tree.items (plain_configuration state) → FitsHeld tree [] (Some (paused state))
-alone_fits tree state fits =
+alone_fits : (tree : PlainTree) (earlier : List EarlierTree) (state : RunState) → Fits tree.items (plain_configuration state)
+    → FitsHeld tree earlier [] (Some (paused state))
+alone_fits tree earlier state fits =
     record { unkept = λ _. fits; stood = λ kept. absurd (cc); earlier = All-nil (Fits tree.items); with_earlier = λ some. absurd (some refl) }
 
 alone_begun : (tree : PlainTree) (state : RunState) → plain_configuration state ≡ First tree.items
@@ -131,11 +157,11 @@ module _ (begins : CodeBeginsAsTree) (items : ProgramItemsTell) (trees : TreesIg
     first = some_same (plain_configuration state) (First (roomless_tree tree).items) (sym began ∙ code_begins)
 
     -- the run that begins may go on
-    pub begun_held : NewRunsFit → FitsHeld (roomless_tree tree) undos held
-    begun_held fit =
-        subst (λ (u : List Undo). FitsHeld (roomless_tree tree) u held) (sym none)
-        (subst (λ (h : Option Run). FitsHeld (roomless_tree tree) [] h) (sym there)
-        (alone_fits (roomless_tree tree) state
+    pub begun_held : NewRunsFit → (earlier : List EarlierTree) → FitsHeld (roomless_tree tree) earlier undos held
+    begun_held fit earlier =
+        subst (λ (u : List Undo). FitsHeld (roomless_tree tree) earlier u held) (sym none)
+        (subst (λ (h : Option Run). FitsHeld (roomless_tree tree) earlier [] h) (sym there)
+        (alone_fits (roomless_tree tree) earlier state
         (subst (Fits (roomless_tree tree).items) (sym first) (fit (roomless_tree tree) ((trees tree).0 is_tree)))))
 
     -- and it is the new run of the program

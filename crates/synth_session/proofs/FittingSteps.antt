@@ -7,6 +7,7 @@ use Rattle.template_tree.specs.Programs.Tree.{IsTree}
 use Rattle.plcs_store.specs.declared.reason.RunReason.{RunReason}
 use Rattle.plcs_store.specs.declared.run_state.Run.{Run}
 use Rattle.plcs_store.specs.declared.undo.Undo.{Undo}
+use Rattle.edit_undo.specs.EarlierTree.{EarlierTree}
 use Rattle.plcs_store.specs.Configuration.{PlainConfiguration, plain_configuration}
 use Rattle.plcs_store.specs.Fits.{Fits}
 use Rattle.plcs_store.specs.Step.{PlainStepAnswer}
@@ -33,9 +34,9 @@ module _ (laws : StepsOfPrograms) (tree : PlainTree) (is_tree : IsTree tree) (co
   -- a run of which a step was made goes on, and back
   stepped_goes_on : (old now : Run) → MadeStep undos_old undos_new old now → Fits (roomless_tree tree).items (plain_configuration old.state)
       → Fits (roomless_tree tree).items (plain_configuration now.state)
-      → MayGoOn (roomless_tree tree) (is_some old.kept) (plain_run (roomless_tree tree).items undos_old old)
-      → MayGoOn (roomless_tree tree) (is_some now.kept) (plain_run (roomless_tree tree).items undos_new now)
-  stepped_goes_on old now made before after fits =
+      → (earlier : List EarlierTree) → MayGoOn (roomless_tree tree) earlier (is_some old.kept) (plain_run (roomless_tree tree).items undos_old old)
+      → MayGoOn (roomless_tree tree) earlier (is_some now.kept) (plain_run (roomless_tree tree).items undos_new now)
+  stepped_goes_on old now made before after earlier fits =
       let held = configurations_before undos_old (plain_configuration old.state) in
       record {
         unkept = λ is. after;
@@ -58,12 +59,13 @@ module _ (laws : StepsOfPrograms) (tree : PlainTree) (is_tree : IsTree tree) (co
 
   -- `fits` of try_step, where a step is made
   pub made_goes_on : (old new : Option Run) → TriesStepIfStands (λ c. result_of (Exec code input c)) undos_old undos_new old new None
-      → HeldFits (roomless_tree tree).items undos_old old → HeldGoesOn (roomless_tree tree) undos_old old → HeldGoesOn (roomless_tree tree) undos_new new
-  made_goes_on None new tries fits goes_on = absurd tries
-  made_goes_on (Some run) new tries fits goes_on =
-      subst (HeldGoesOn (roomless_tree tree) undos_new) (sym tries.1)
+      → HeldFits (roomless_tree tree).items undos_old old → (earlier : List EarlierTree) → HeldGoesOn (roomless_tree tree) earlier undos_old old
+      → HeldGoesOn (roomless_tree tree) earlier undos_new new
+  made_goes_on None new tries fits earlier goes_on = absurd tries
+  made_goes_on (Some run) new tries fits earlier goes_on =
+      subst (HeldGoesOn (roomless_tree tree) earlier undos_new) (sym tries.1)
       (stepped_goes_on run tries.0 tries.2.1 fits
-      (next_fits (plain_configuration run.state) (plain_configuration tries.0.state) fits tries.2.0) goes_on)
+      (next_fits (plain_configuration run.state) (plain_configuration tries.0.state) fits tries.2.0) earlier goes_on)
 
 -- ---- a step that isn't made
 

@@ -24,20 +24,32 @@ pub mod AllSteps
 pub mod ShownTicks
 -- `TextsHaveOneReply`, `does` of enter_text and `read` of read_phrase: what the parser answers is what the text is
 pub mod StandingTexts
+-- the conditions of the trees to which can be gone back, in each command that changes the program
+pub mod EarlierAgreements
+-- the stops of the trees to which can be gone back
+pub mod NotedStops
+-- clauses of stop_or_comment: where the cursor goes for a stop
+pub mod StopsOrComments
 -- clauses of keep_for_run, edit, cut_out and toggle_comment: what is kept for the run that stands
 pub mod KeptRuns
+-- clauses of accept_edit, edit and cut_out: an edit that is noted
+pub mod NotedEdits
+-- clauses of undo_edit: the edits that are left
+pub mod UndoneEdits
+-- `UndoComesBack`, `EditsAreKept`: the session that comes back, and the edits that are kept
+pub mod UndoneSessions
 -- clauses of edit and cut_out: what comes of an edit that is made or refused, and what is counted then
 pub mod EditOutcomes
+-- clauses of edit, cut_out, accept_edit and undo_edit: what comes of an edit that is made, or undone
+pub mod AcceptedEdits
 -- `Answers` of toggle_comment: the cursor may stay at a comment that is turned
 pub mod TurnedStops
 -- `sound` of copy_phrase_at: what stands in a part may be inserted
 pub mod SoundPhrases
 -- `text` of line_text, and `put` of LineText
 pub mod LineTexts
--- clauses of slots_there, copy_there and take_node
+-- clauses of slots_there and copy_there
 pub mod ClipFragments
--- `Does` of take_node: the node that is given out is the one at the cursor
-pub mod TakenNodes
 -- `agrees` of change: the layout where an edit is undone
 pub mod AgreeingDependents
 -- `rows`, `many` and `counted` of fill

@@ -31,6 +31,8 @@ use Rattle.synth_session.specs.declared.key.Key.{Key}
 use Rattle.synth_session.specs.declared.key.Key.TheVariants.{Char, Enter, Erase, Clear, Tab, Up, Down, Left, Right, Other}
 use Rattle.synth_session.specs.declared.answer.Answer.{Answer}
 use Rattle.synth_session.specs.declared.answer.ClipRefusal.{ClipRefusal}
+use Rattle.edit_undo.specs.EarlierTree.{EarlierTree}
+use Rattle.synth_session.specs.UndoCommand.{undone_to}
 use Rattle.synth_session.specs.declared.answer.Refusal.{Refusal}
 use Rattle.synth_session.specs.declared.answer.Refusal.TheVariants as why
 use Rattle.synth_session.specs.declared.typed_line.TheConstants.{LINE_LIMIT}
@@ -138,6 +140,11 @@ turned_alone s =
     either_alone s (is_at_comment s.tree s.stop) (line_acceptance_outcome (record s { tree = with_toggled_at s.stop.path s.tree })) (refusal_outcome s why.NotHere)
     (taken_alone s _ refl) (refused_alone s why.NotHere)
 
+-- an edit taken back
+undone_alone : (s : PlainSession) (earlier : List EarlierTree) → Alone s (undone_to s earlier)
+undone_alone s [] = refused_alone s why.NothingToUndo
+undone_alone s (latest ∷ others) = taken_alone s _ refl
+
 -- a program saved, or refused
 save_alone : (s : PlainSession) (reply : Reply) → Alone s (save_outcome s reply)
 save_alone s Reply.NotAsked = taken_alone s _ refl
@@ -219,6 +226,7 @@ command_alone s (PlainCommand.copy name) reply =
     (copied_alone s name (fragment_there s.tree s.stop s.stop.part))
 command_alone s (PlainCommand.insert name) reply = inserted_alone s (clip_named name s.clips)
 command_alone s PlainCommand.elide reply = turned_alone s
+command_alone s PlainCommand.undo reply = undone_alone s s.earlier
 command_alone s PlainCommand.top reply = taken_alone s _ refl
 command_alone s PlainCommand.bottom reply = taken_alone s _ refl
 command_alone s PlainCommand.run reply = running_alone s _ refl

@@ -12,6 +12,7 @@ use Rattle.plcs_store.specs.declared.reason.RunReason.{RunReason}
 use Rattle.plcs_store.specs.declared.refusal.ResumeRefusal.{ResumeRefusal}
 use Rattle.plcs_store.specs.declared.run_state.Run.{Run}
 use Rattle.plcs_store.specs.declared.undo.Undo.{Undo}
+use Rattle.edit_undo.specs.EarlierTree.{EarlierTree}
 use Rattle.plcs_store.specs.Configuration.{PlainConfiguration, plain_configuration}
 use Rattle.plcs_store.specs.Fits.{Fits}
 use Rattle.plcs_store.specs.Resume.{IsKeptOf, MayResume, UneditedResumes, kept_of, resolved}
@@ -19,7 +20,7 @@ use Rattle.plcs_store.specs.RunsAlike.{RunsIgnoreRoom}
 use Rattle.back_steps.specs.EarlierConfigurations.{configurations_before}
 use Rattle.suspend_state.specs.Suspension.{FittingRunsAreKept}
 use Rattle.resume_rule.specs.ResumeAnswer.{HasEntries, IsResumeAnswer}
-use Rattle.resume_rule.specs.ResumeLaws.{AnswersIgnoreRoom, EditedRunsFit, FittingRunsResolved, KeptHasEntries}
+use Rattle.resume_rule.specs.ResumeLaws.{AnswersIgnoreRoom, ResumedRunsFit, FittingRunsResolved, KeptHasEntries}
 use Rattle.synth_session.specs.KeyOutcome.{KeyOutcome, refusal_outcome}
 use Rattle.synth_session.specs.declared.answer.Answer.{Answer}
 use Rattle.synth_session.specs.declared.answer.Refusal.TheVariants as why
@@ -100,8 +101,8 @@ IsAnswered tree held answer =
 abbrev pub GoesOnUnedited : Option Run → Option ResumeRefusal → Type 0
 GoesOnUnedited held answer = IfSome held (λ run. run.kept ≡ None → answer ≡ None)
 
-module _ (tree : PlainTree) (undos : List Undo) (run : Run)
-    (fits : MayGoOn (roomless_tree tree) (is_some run.kept) (plain_run (roomless_tree tree).items undos run)) where
+module _ (tree : PlainTree) (earlier : List EarlierTree) (undos : List Undo) (run : Run)
+    (fits : MayGoOn (roomless_tree tree) earlier (is_some run.kept) (plain_run (roomless_tree tree).items undos run)) where
   -- what is kept for it has an entry for each frame
   has_entries : KeptHasEntries → (kept : Option Kept) → run.kept ≡ kept → IfSome kept (HasEntries (plain_configuration run.state))
   has_entries entries None same = tt
@@ -151,7 +152,7 @@ module _ (tree : PlainTree) (undos : List Undo) (run : Run)
   run_may unedited are_kept ignore answer asked free = may_resume unedited are_kept ignore answer run.kept refl asked free
 
   -- where it may, it fits the program once its place is resolved
-  module _ (edited : EditedRunsFit) (resolves : FittingRunsResolved) (is_tree : IsTree (roomless_tree tree))
+  module _ (edited : ResumedRunsFit) (resolves : FittingRunsResolved) (is_tree : IsTree (roomless_tree tree))
       (may : MayResume (plain_run (roomless_tree tree).items undos run).kept (plain_configuration run.state) (roomless_tree tree).items None) where
     resolved_fits : (is_kept : Bool) → is_some run.kept ≡ is_kept
         → Fits (roomless_tree tree).items (resolved (roomless_tree tree).items (plain_configuration run.state))
@@ -161,7 +162,7 @@ module _ (tree : PlainTree) (undos : List Undo) (run : Run)
     resolved_fits true same =
         let stood = fits.stood same in
         edited stood.before (roomless_tree tree) (plain_configuration run.state) (plain_run (roomless_tree tree).items undos run).kept stood.is_tree is_tree
-        stood.edits stood.fits stood.kept may
+        stood.agrees stood.fits stood.kept may
 
     module _ (alike : RunsIgnoreRoom) (going : Run) (goes : GoesOn tree.items run going) where
       goes_there : plain_configuration going.state ≡ resolved (roomless_tree tree).items (plain_configuration run.state)
@@ -182,7 +183,7 @@ module _ (tree : PlainTree) (undos : List Undo) (run : Run)
       fits_there = subst (Fits (roomless_tree tree).items) (sym goes_there) (resolved_fits (is_some run.kept) refl)
 
       -- so it may go on from there
-      going_fits : MayGoOn (roomless_tree tree) (is_some going.kept) (plain_run (roomless_tree tree).items undos going)
+      going_fits : MayGoOn (roomless_tree tree) earlier (is_some going.kept) (plain_run (roomless_tree tree).items undos going)
       going_fits =
           let none : is_some going.kept ≡ false = ap is_some goes.dropped in
           record {
@@ -207,20 +208,20 @@ module _ (tree : PlainTree) (undos : List Undo) (run : Run)
 
 -- ---- the same, if one is held
 
-module _ (tree : PlainTree) (undos : List Undo) where
-  pub held_asked : RunsIgnoreRoom → KeptHasEntries → (held : Option Run) → FitsHeld (roomless_tree tree) undos held → IfSome held (CanBeAsked tree.items)
+module _ (tree : PlainTree) (earlier : List EarlierTree) (undos : List Undo) where
+  pub held_asked : RunsIgnoreRoom → KeptHasEntries → (held : Option Run) → FitsHeld (roomless_tree tree) earlier undos held → IfSome held (CanBeAsked tree.items)
   held_asked alike entries None fits = tt
-  held_asked alike entries (Some run) fits = run_asked tree undos run fits alike entries
+  held_asked alike entries (Some run) fits = run_asked tree earlier undos run fits alike entries
 
-  pub held_stays : RunsIgnoreRoom → FittingRunsResolved → (held : Option Run) → FitsHeld (roomless_tree tree) undos held
+  pub held_stays : RunsIgnoreRoom → FittingRunsResolved → (held : Option Run) → FitsHeld (roomless_tree tree) earlier undos held
       → IfSome held (StaysIfHeld tree.items undos)
   held_stays alike resolves None fits = tt
-  held_stays alike resolves (Some run) fits = run_stays tree undos run fits alike resolves
+  held_stays alike resolves (Some run) fits = run_stays tree earlier undos run fits alike resolves
 
   module _ (unedited : UneditedResumes) (are_kept : FittingRunsAreKept) (ignore : AnswersIgnoreRoom) where
     -- what can be replied to it
     pub held_reply : (held : Option Run) (run : PlainRun) (answer : Option ResumeRefusal)
-        → option_map (plain_run (roomless_tree tree).items undos) held ≡ Some run → FitsHeld (roomless_tree tree) undos held
+        → option_map (plain_run (roomless_tree tree).items undos) held ≡ Some run → FitsHeld (roomless_tree tree) earlier undos held
         → IsAnswered tree held answer → GoesOnUnedited held answer → is_ended run.reason ≡ false
         → CanReply None (run_request (roomless_tree tree) (option_map (plain_run (roomless_tree tree).items undos) held)) (Reply.Resumes answer)
     held_reply None run answer there fits asked free goes = absurd (cc)
@@ -228,29 +229,29 @@ module _ (tree : PlainTree) (undos : List Undo) where
         let same : plain_run (roomless_tree tree).items undos run ≡ plain = ap (λ (o : Option PlainRun). unwrap_or o plain) there in
         request_asked (roomless_tree tree) (plain_run (roomless_tree tree).items undos run) answer
         (ap (λ (r : PlainRun). is_ended r.reason) same ∙ goes)
-        (run_may tree undos run fits unedited are_kept ignore answer asked free)
+        (run_may tree earlier undos run fits unedited are_kept ignore answer asked free)
 
-    module _ (alike : RunsIgnoreRoom) (edited : EditedRunsFit) (resolves : FittingRunsResolved) (is_tree : IsTree (roomless_tree tree))
+    module _ (alike : RunsIgnoreRoom) (edited : ResumedRunsFit) (resolves : FittingRunsResolved) (is_tree : IsTree (roomless_tree tree))
         (undos_now : List Undo) (records : undos_now ≡ undos) where
       -- where it may go on, it may
-      pub held_goes_on : (held now : Option Run) → GoesOnIfStands tree.items held now → FitsHeld (roomless_tree tree) undos held
-          → IsAnswered tree held None → FitsHeld (roomless_tree tree) undos_now now
-      held_goes_on None now goes fits asked = subst (FitsHeld (roomless_tree tree) undos_now) (sym goes) tt
+      pub held_goes_on : (held now : Option Run) → GoesOnIfStands tree.items held now → FitsHeld (roomless_tree tree) earlier undos held
+          → IsAnswered tree held None → FitsHeld (roomless_tree tree) earlier undos_now now
+      held_goes_on None now goes fits asked = subst (FitsHeld (roomless_tree tree) earlier undos_now) (sym goes) tt
       held_goes_on (Some run) now goes fits asked =
-          subst (λ (u : List Undo). FitsHeld (roomless_tree tree) u now) (sym records)
-          (subst (FitsHeld (roomless_tree tree) undos) (sym goes.1)
-          (going_fits tree undos run fits edited resolves is_tree
-          (run_may tree undos run fits unedited are_kept ignore None asked (λ _. refl)) alike goes.0 goes.2))
+          subst (λ (u : List Undo). FitsHeld (roomless_tree tree) earlier u now) (sym records)
+          (subst (FitsHeld (roomless_tree tree) earlier undos) (sym goes.1)
+          (going_fits tree earlier undos run fits edited resolves is_tree
+          (run_may tree earlier undos run fits unedited are_kept ignore None asked (λ _. refl)) alike goes.0 goes.2))
 
-      pub held_plain : (held now : Option Run) (run : PlainRun) → GoesOnIfStands tree.items held now → FitsHeld (roomless_tree tree) undos held
+      pub held_plain : (held now : Option Run) (run : PlainRun) → GoesOnIfStands tree.items held now → FitsHeld (roomless_tree tree) earlier undos held
           → IsAnswered tree held None → option_map (plain_run (roomless_tree tree).items undos) held ≡ Some run
           → option_map (plain_run (roomless_tree tree).items undos_now) now ≡ Some (resumed_run (roomless_tree tree) run)
       held_plain None now run goes fits asked there = absurd (cc)
       held_plain (Some run) now plain goes fits asked there =
           ap (λ (u : List Undo). option_map (plain_run (roomless_tree tree).items u) now) records
           ∙ ap (option_map (plain_run (roomless_tree tree).items undos)) goes.1
-          ∙ ap Some (going_plain tree undos run fits edited resolves is_tree
-          (run_may tree undos run fits unedited are_kept ignore None asked (λ _. refl)) alike goes.0 goes.2)
+          ∙ ap Some (going_plain tree earlier undos run fits edited resolves is_tree
+          (run_may tree earlier undos run fits unedited are_kept ignore None asked (λ _. refl)) alike goes.0 goes.2)
           ∙ ap (option_map (resumed_run (roomless_tree tree))) there
 
 -- ---- why it stands still

@@ -34,6 +34,8 @@ use Rattle.synth_session.specs.declared.key.Key.{Key}
 use Rattle.synth_session.specs.declared.key.Key.TheVariants.{Char, Enter, Erase, Clear, Tab, Up, Down, Left, Right, Other}
 use Rattle.synth_session.specs.declared.answer.Answer.{Answer}
 use Rattle.synth_session.specs.declared.answer.ClipRefusal.{ClipRefusal}
+use Rattle.edit_undo.specs.EarlierTree.{EarlierTree}
+use Rattle.synth_session.specs.UndoCommand.{undone_to}
 use Rattle.synth_session.specs.declared.answer.Refusal.{Refusal}
 use Rattle.synth_session.specs.declared.answer.Refusal.TheVariants as why
 use Rattle.synth_session.specs.declared.typed_line.TheConstants.{LINE_LIMIT}
@@ -140,6 +142,11 @@ turned_still s =
     either_still (is_at_comment s.tree s.stop) (line_acceptance_outcome (record s { tree = with_toggled_at s.stop.path s.tree })) (refusal_outcome s why.NotHere)
     (taken_still _ refl refl) (refused_still s why.NotHere)
 
+-- an edit taken back
+undone_still : (s : PlainSession) (earlier : List EarlierTree) → IsStill (undone_to s earlier)
+undone_still s [] = refused_still s why.NothingToUndo
+undone_still s (latest ∷ others) = taken_still _ refl refl
+
 -- a program saved, or refused
 save_still : (s : PlainSession) (reply : Reply) → IsStill (save_outcome s reply)
 save_still s Reply.NotAsked = taken_still _ refl refl
@@ -242,6 +249,7 @@ module _ (s : PlainSession) (reply : Reply) (P : Request → KeyOutcome → Type
       (copied_still s name (fragment_there s.tree s.stop s.stop.part)))
   command_has (PlainCommand.insert name) = still _ _ (inserted_still s (clip_named name s.clips))
   command_has PlainCommand.elide = still _ _ (turned_still s)
+  command_has PlainCommand.undo = still _ _ (undone_still s s.earlier)
   command_has PlainCommand.top = still _ _ (taken_still _ refl refl)
   command_has PlainCommand.bottom = still _ _ (taken_still _ refl refl)
   command_has PlainCommand.run = begins (most_steps s.trace)

@@ -7,6 +7,7 @@ use Rattle.plcs_store.specs.declared.kept.Kept.{Kept}
 use Rattle.plcs_store.specs.declared.reason.RunReason.{RunReason}
 use Rattle.plcs_store.specs.declared.run_state.Run.{Run}
 use Rattle.plcs_store.specs.declared.undo.Undo.{Undo}
+use Rattle.edit_undo.specs.EarlierTree.{EarlierTree}
 use Rattle.plcs_store.specs.Configuration.{PlainConfiguration, plain_configuration}
 use Rattle.plcs_store.specs.Fits.{Fits}
 use Rattle.plcs_store.specs.Resume.{kept_of}
@@ -49,21 +50,28 @@ rests s program undos_old undos_new reason notice (Some run) new stands same und
     undos same
 
 -- the run that is held, if one is, may be asked whether it goes on in the program, and may go back
-abbrev pub HeldGoesOn : PlainTree → List Undo → Option Run → Type 0
-HeldGoesOn tree undos held = IfSome held (λ run. MayGoOn tree (is_some run.kept) (plain_run tree.items undos run))
+abbrev pub HeldGoesOn : PlainTree → List EarlierTree → List Undo → Option Run → Type 0
+HeldGoesOn tree earlier undos held = IfSome held (λ run. MayGoOn tree earlier (is_some run.kept) (plain_run tree.items undos run))
 
 -- the run that is held, if one is, fits the program
 abbrev pub HeldFits : Forest → List Undo → Option Run → Type 0
 HeldFits program undos held = IfSome (option_map (plain_run program undos) held) (λ run. Fits program run.configuration)
 
-rests_run : (tree : PlainTree) (undos : List Undo) (reason : RunReason) (old : Option Run) → HeldGoesOn tree undos old
-    → HeldGoesOn tree undos (option_map (with_reason reason) old)
-rests_run tree undos reason None goes_on = tt
-rests_run tree undos reason (Some run) goes_on = record {
+rests_run : (tree : PlainTree) (earlier : List EarlierTree) (undos : List Undo) (reason : RunReason) (old : Option Run)
+    → HeldGoesOn tree earlier undos old → HeldGoesOn tree earlier undos (option_map (with_reason reason) old)
+rests_run tree earlier undos reason None goes_on = tt
+rests_run tree earlier undos reason (Some run) goes_on = record {
   unkept = goes_on.unkept;
   stood = λ is.
       let stood = goes_on.stood is in
-      record { before = stood.before; is_tree = stood.is_tree; edits = stood.edits; fits = stood.fits; kept = stood.kept };
+      record {
+        before = stood.before;
+        is_tree = stood.is_tree;
+        agrees = stood.agrees;
+        earlier_agree = stood.earlier_agree;
+        fits = stood.fits;
+        kept = stood.kept;
+      };
   earlier = goes_on.earlier;
   with_earlier = goes_on.with_earlier;
 }
@@ -82,11 +90,12 @@ same_held {W} P one other run held program same has =
 module _ {W : Type 0} (one other : Program W) (old rested held : PlainHeldRun) (reason : RunReason) (program : other ≡ one) (same : held ≡ rested)
     (run : rested.run ≡ option_map (with_reason reason) old.run) (undos : rested.undos ≡ old.undos) where
   -- `fits` of rest
-  pub rests_go_on : HeldGoesOn (roomless_tree one.tree) old.undos old.run → HeldGoesOn (roomless_tree other.tree) held.undos held.run
-  rests_go_on goes_on =
-      same_held (λ tree h. HeldGoesOn tree h.undos h.run) one other rested held program same
-      (subst (λ (u : List Undo). HeldGoesOn (roomless_tree one.tree) u rested.run) (sym undos)
-      (subst (HeldGoesOn (roomless_tree one.tree) old.undos) (sym run) (rests_run (roomless_tree one.tree) old.undos reason old.run goes_on)))
+  pub rests_go_on : (earlier : List EarlierTree) → HeldGoesOn (roomless_tree one.tree) earlier old.undos old.run
+      → HeldGoesOn (roomless_tree other.tree) earlier held.undos held.run
+  rests_go_on earlier goes_on =
+      same_held (λ tree h. HeldGoesOn tree earlier h.undos h.run) one other rested held program same
+      (subst (λ (u : List Undo). HeldGoesOn (roomless_tree one.tree) earlier u rested.run) (sym undos)
+      (subst (HeldGoesOn (roomless_tree one.tree) earlier old.undos) (sym run) (rests_run (roomless_tree one.tree) earlier old.undos reason old.run goes_on)))
 
   -- `stays_fit` of rest
   pub rests_fit : HeldFits (roomless_tree one.tree).items old.undos old.run → HeldFits (roomless_tree other.tree).items held.undos held.run

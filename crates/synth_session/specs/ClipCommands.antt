@@ -48,7 +48,7 @@ cut_outcome s name (Edited.refused fault) fragment = refusal_outcome s (edit_ref
 cut_outcome s name (Edited.became tree stop taken what slot) None = refusal_outcome s why.NotHere
 cut_outcome s name (Edited.became tree stop taken what slot) (Some fragment) =
     program_acceptance_outcome
-    (record (edited_session s tree stop) { clips = with_clip name (whole_fragment fragment) s.clips })
+    (record (edited_session s tree stop taken) { clips = with_clip name (whole_fragment fragment) s.clips })
 
 -- what `.cut` does: what stands at the cursor is taken out into the clip of this name, where the clips have room
 abbrev pub cut_to_clip : PlainSession → List ℕ → KeyOutcome

@@ -25,6 +25,7 @@ use Rattle.synth_session.specs.KeyReply.{Reply}
 use Rattle.synth_session.specs.KeyOutcome.{KeyOutcome, line_acceptance_outcome, no_reply_outcome, refusal_outcome}
 use Rattle.synth_session.specs.PlainSession.{PlainSession}
 use Rattle.synth_session.specs.RunCommands.{back_outcome, input_outcome, resume_outcome, run_outcome, step_outcome, trace_outcome}
+use Rattle.synth_session.specs.UndoCommand.{undo_outcome}
 
 -- ---- commands
 
@@ -44,6 +45,7 @@ command_outcome s (PlainCommand.cut name) reply = cut_to_clip s name
 command_outcome s (PlainCommand.copy name) reply = copied_to_clip s name
 command_outcome s (PlainCommand.insert name) reply = clip_inserted s name
 command_outcome s PlainCommand.elide reply = comment_toggled s
+command_outcome s PlainCommand.undo reply = undo_outcome s
 command_outcome s PlainCommand.top reply = line_acceptance_outcome (record s { stop = first_stop s.tree.items })
 command_outcome s PlainCommand.bottom reply = line_acceptance_outcome (record s { stop = last_stop s.tree.items })
 command_outcome s PlainCommand.run reply = run_outcome s

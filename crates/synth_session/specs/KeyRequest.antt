@@ -30,6 +30,7 @@ command_request s (PlainCommand.cut name) = Request.Nothing
 command_request s (PlainCommand.copy name) = Request.Nothing
 command_request s (PlainCommand.insert name) = Request.Nothing
 command_request s PlainCommand.elide = Request.Nothing
+command_request s PlainCommand.undo = Request.Nothing
 command_request s PlainCommand.top = Request.Nothing
 command_request s PlainCommand.bottom = Request.Nothing
 command_request s PlainCommand.run = Request.Nothing

@@ -24,11 +24,13 @@ pub mod CursorKeys
 pub mod EditCommands
 pub mod ClipCommands
 pub mod ElideCommand
+pub mod UndoCommand
 pub mod FileCommands
 pub mod RunCommands
 pub mod CodeCommand
 pub mod EnteredLine
 pub mod Press
+pub mod UndoLaw
 pub mod MemoryTaken
 pub mod KeyRequest
 -- ---- the screen of a session

@@ -7,8 +7,9 @@ use Rattle.synth_session.specs.declared.key.Key.{Key}
 use Rattle.synth_session.specs.declared.key.Key.TheVariants.{Enter}
 use Rattle.synth_session.specs.PlainSession.{PlainSession}
 
--- whether a command takes memory in a session: those that edit the program, those of clips, those that begin a run,
--- more input, and those of files do; saving takes none of its own, but the files may want some
+-- whether a command takes memory in a session: those that edit the program, the one that undoes an edit, those of
+-- clips, those that begin a run, more input, and those of files do; saving takes none of its own, but the files may
+-- want some
 abbrev pub command_takes_memory : PlainSession → PlainCommand → Bool
 command_takes_memory s (PlainCommand.template template) = true
 command_takes_memory s PlainCommand.float = false
@@ -19,6 +20,7 @@ command_takes_memory s (PlainCommand.cut name) = true
 command_takes_memory s (PlainCommand.copy name) = true
 command_takes_memory s (PlainCommand.insert name) = true
 command_takes_memory s PlainCommand.elide = false
+command_takes_memory s PlainCommand.undo = true
 command_takes_memory s PlainCommand.top = false
 command_takes_memory s PlainCommand.bottom = false
 command_takes_memory s PlainCommand.run = true

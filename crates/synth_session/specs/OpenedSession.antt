@@ -19,9 +19,9 @@ abbrev pub stop_at_first : Option PlainTree → PlainStop
 stop_at_first None = node_stop (0 ∷ 1 ∷ [])
 stop_at_first (Some tree) = first_stop tree.items
 
--- a session over a tree with the cursor at a stop, on a screen of this size, with this input: nothing is typed, clipped
--- or told, no step or code is shown and no run stands, and the window begins at the first line from which the cursor is
--- seen
+-- a session over a tree with the cursor at a stop, on a screen of this size, with this input: nothing is typed,
+-- clipped or told, no step or code is shown, no run stands and nothing can be undone, and the window begins at the
+-- first line from which the cursor is seen
 abbrev pub session_over : PlainScreenSize → PlainTree → PlainStop → List ℕ → PlainSession
 session_over size tree stop input =
     with_cursor_seen record {
@@ -38,6 +38,7 @@ session_over size tree stop input =
       run = None;
       asked = 0;
       made = 0;
+      earlier = [];
     }
 
 -- the session with which an editor is opened, over the program that is given or a new one, with this input of the

@@ -1,6 +1,7 @@
--- What each key does. A key that asks for more than one thing is refused for the first of these that holds: an unknown
--- command, a wrong argument, floating point, no clip, the wrong stop, a fault in phrase text, a phrase or line that is
--- full, a limit of trees, full clips, a file, no run, a run that is over, one that may not go on, no history, the edge.
+-- What each key does. A key that asks for more than one thing is refused for the first of these that holds: an
+-- unknown command, a wrong argument, floating point, no clip, the wrong stop, a fault in phrase text, a phrase or
+-- line that is full, a limit of trees, full clips, a file, no run, a run that is over, one that may not go on, no
+-- history, nothing to undo, the edge.
 use Rattle.std.specs.Prelude.{◌≡◌, None, Option}
 use Rattle.cursor_moves.specs.Move.{stop_down, stop_left, stop_right, stop_up}
 use Rattle.synth_outside.specs.Files.{FileMap}

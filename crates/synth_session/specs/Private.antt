@@ -21,5 +21,6 @@ pub mod RunReply
 pub mod MemorylessKey
 -- ---- what comes of a key that asks the files, and counts nothing
 pub mod UncountedKey
--- ---- what comes of taking something out of the program
-pub mod TakenFragment
+-- ---- a program that was edited, and one in which an edit was undone
+pub mod EditedProgram
+pub mod UndoneProgram

@@ -61,6 +61,7 @@ refusal_message why.WrongArgument = Some (Message.Refusal words.WrongArgument)
 refusal_message why.PhraseFull = Some (Message.Refusal words.PhraseFull)
 refusal_message why.FloatNotThere = Some (Message.Refusal words.FloatNotThere)
 refusal_message why.AtEdge = Some (Message.Refusal words.AtEdge)
+refusal_message why.NothingToUndo = Some (Message.Refusal words.NothingToUndo)
 
 -- the text that is shown for the message of a refusal, or for another message, or nothing where there is none
 abbrev pub shown_message : Option Message → List ℕ

@@ -1,5 +1,5 @@
 -- The session in the code: its plain form, the conditions between its parts, and what becomes of it in a key.
-use Rattle.std.specs.Prelude.{◌≡◌, ◌≢◌, ◌+◌, ◌*◌, ◌<◌, ◌≤◌, Bool, true, false, IsTrue, IfSome, List, [], is_some, option_map, unwrap_or, Result, Ok, Err}
+use Rattle.std.specs.Prelude.{◌≡◌, ◌≢◌, ◌+◌, ◌*◌, ◌<◌, ◌≤◌, Bool, true, false, IsTrue, IfSome, IsSomeAnd, List, [], ◌∷◌, is_some, option_map, unwrap_or, Result, Ok, Err}
 use Rattle.std.specs.List.{All}
 use Rattle.plcs_base.specs.PlainCounts.{PlainCounts}
 use Rattle.plcs_base.specs.declared.memory.OutOfMemory.{OutOfMemory}
@@ -7,9 +7,11 @@ use Rattle.synth_outside.specs.Files.{PlainFiles}
 use Rattle.template_tree.specs.Programs.Limit.{most_slots}
 use Rattle.template_tree.specs.Checks.Marks.{Verdicts, offences}
 use Rattle.template_tree.specs.Programs.PlainTree.{Forest, PlainTree, roomless, roomless_tree}
-use Rattle.template_tree.specs.Positions.Stop.{IsStop, line_at, plain_stop}
+use Rattle.template_tree.specs.Positions.Path.{node_at}
+use Rattle.template_tree.specs.Positions.Stop.{IsStop, MayStand, line_at, plain_stop}
 use Rattle.template_tree.specs.Programs.Tree.{IsTree}
-use Rattle.tree_steps.specs.EditStep.{CameByEdits}
+use Rattle.template_tree.specs.Edits.Reversal.{Back}
+use Rattle.tree_steps.specs.SlotAgreement.{AgreesWith}
 use Rattle.plcs_store.specs.declared.run_state.Run.{Run}
 use Rattle.plcs_store.specs.declared.undo.Undo.{Undo}
 use Rattle.plcs_store.specs.Configuration.{plain_configuration}
@@ -19,6 +21,8 @@ use Rattle.plcs_code.specs.Gen.{PlainCode}
 use Rattle.back_steps.specs.EarlierConfigurations.{configurations_before}
 use Rattle.decl_table.specs.Agreement.{IsDeclsOf}
 use Rattle.clip_store.specs.PlainClips.{kept_pairs}
+use Rattle.edit_undo.specs.EarlierTree.{EarlierTree, RingFits, trees_before}
+use Rattle.edit_undo.specs.declared.edit_record.EditRecord.{EditRecord}
 use Rattle.unparse_layout.specs.Agreement.{IsLayoutOf}
 use Rattle.screen_window.specs.HeldLines.{HoldLinesOf}
 use Rattle.screen_window.specs.PlainGrid.{PlainGrid}
@@ -62,6 +66,7 @@ plain_session s = record {
   run = option_map (plain_run (roomless_tree s.program.tree).items s.run.undos) s.run.run;
   asked = s.asked;
   made = s.made;
+  earlier = trees_before s.edits (roomless_tree s.program.tree);
 }
 
 -- the screen that a session in the code painted last
@@ -121,20 +126,22 @@ HasProgramCode s = HasCode s.program
 
 -- ---- the run that stands
 
--- a run came to stand in a program of which this one came by edits, and this is what is kept of it
-pub record CameToStand (tree : PlainTree) (run : PlainRun) : Type 0 where
+-- a run came to stand in a program with which this one agrees by its slots, and each to which can be gone back, once
+-- it comes back; and this is what is kept of it
+pub record CameToStand (tree : PlainTree) (earlier : List EarlierTree) (run : PlainRun) : Type 0 where
   pub before : PlainTree
   pub is_tree : IsTree before
-  pub edits : CameByEdits before tree
+  pub agrees : AgreesWith before tree
+  pub earlier_agree : All (λ other. AgreesWith before (Back tree other.tree)) earlier
   pub fits : Fits before.items run.configuration
   pub kept : IsKeptOf before.items run.configuration run.kept
 
 -- a run that stands may be asked whether it goes on in the program, and may go back: where nothing is kept yet it fits
--- the program, and else it came to stand in one of which this came by edits. Each earlier configuration that is held
--- fits the program, and where one is held, so does the run's own
-pub record MayGoOn (tree : PlainTree) (is_kept : Bool) (run : PlainRun) : Type 0 where
+-- the program, and else it came to stand in one with which this agrees, and those to which can be gone back. Each
+-- earlier configuration that is held fits the program, and where one is held, so does the run's own
+pub record MayGoOn (tree : PlainTree) (before : List EarlierTree) (is_kept : Bool) (run : PlainRun) : Type 0 where
   pub unkept : is_kept ≡ false → Fits tree.items run.configuration
-  pub stood : is_kept ≡ true → CameToStand tree run
+  pub stood : is_kept ≡ true → CameToStand tree before run
   pub earlier : All (Fits tree.items) run.earlier
   pub with_earlier : run.earlier ≢ [] → Fits tree.items run.configuration
 
@@ -142,15 +149,41 @@ pub record MayGoOn (tree : PlainTree) (is_kept : Bool) (run : PlainRun) : Type 0
 abbrev pub HasFittingRun : {W : Type 0} → Session W → Type 0
 HasFittingRun s =
     IfSome s.run.run (λ run.
-    MayGoOn (roomless_tree s.program.tree) (is_some run.kept)
+    MayGoOn (roomless_tree s.program.tree) (plain_session s).earlier (is_some run.kept)
     (plain_run (roomless_tree s.program.tree).items s.run.undos run))
 
--- the conditions of a session for a key: its parts keep those between them, its code is that of its program, and its
--- run may go on
+-- ---- the edits that can be undone
+
+-- the stop of an earlier tree stands in it, shown or hidden
+abbrev pub HasStop : EarlierTree → Type 0
+HasStop earlier =
+    IsSomeAnd (node_at earlier.tree.items earlier.stop.path) (λ node. MayStand earlier.stop.part node.label.kind)
+
+-- each of the trees to which can be gone back agrees by its slots with those that came after it, and no more slots
+-- were drawn in it
+abbrev pub AgreeInTurn : (now : PlainTree) → List EarlierTree → Type 0
+AgreeInTurn now [] = Unit {0}
+AgreeInTurn now (latest ∷ others) =
+    All (λ earlier. AgreesWith earlier.tree now × (earlier.tree.drawn ≤ now.drawn)) (latest ∷ others)
+    × AgreeInTurn latest.tree others
+
+-- the records of edits fit the tree to which they led, each tree before it has its stop, and the trees agree
+pub record EditsFit (edits : List EditRecord) (tree : PlainTree) : Type 0 where
+  pub fits : RingFits edits tree
+  pub stops : All HasStop (trees_before edits tree)
+  pub agree : AgreeInTurn tree (trees_before edits tree)
+
+-- a condition of a session: its edits fit its program
+abbrev pub HasFittingEdits : {W : Type 0} → Session W → Type 0
+HasFittingEdits s = EditsFit s.edits (roomless_tree s.program.tree)
+
+-- the conditions of a session for a key: its parts keep those between them, its code is that of its program, its run
+-- may go on, and its edits can be undone
 pub record IsReadyForKey {W : Type 0} (s : Session W) : Type 0 where
   pub session : IsSession s
   pub code : HasProgramCode s
   pub run : HasFittingRun s
+  pub edits : HasFittingEdits s
 
 -- ---- what became of a session
 

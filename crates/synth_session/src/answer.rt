@@ -52,6 +52,8 @@ pub enum Refusal {
     FloatNotThere,
     /// There is no stop to go to.
     AtEdge,
+    /// No edit is held that could be undone.
+    NothingToUndo,
 }
 
 /// Why a key with a command of clips was refused, as its answer tells.
@@ -84,6 +86,7 @@ impl Refusal {
             Refusal::PhraseFull => RefusalMessage::PhraseFull,
             Refusal::FloatNotThere => RefusalMessage::FloatNotThere,
             Refusal::AtEdge => RefusalMessage::AtEdge,
+            Refusal::NothingToUndo => RefusalMessage::NothingToUndo,
         }))
     }
 }

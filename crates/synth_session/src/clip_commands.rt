@@ -2,7 +2,6 @@
 ghost use Rattle.std.specs.Prelude.{◌≡◌, ◌≤◌, false, true, not, IfOk, IfSome, Option, Some, None, option_map, option_and_then};
 ghost use Rattle.plcs_grammar.specs.PlainPhrase.{plain_phrase};
 ghost use Rattle.template_tree.specs.Programs.PlainTree.{roomless_tree};
-ghost use Rattle.template_tree.specs.Programs.Program.{IsSubtree};
 ghost use Rattle.template_tree.specs.Positions.Stop.{IsStop, plain_stop};
 ghost use Rattle.template_tree.specs.Programs.Tree.{IsTree};
 ghost use Rattle.clip_store.specs.ClipLimit.{has_room, is_full};
@@ -20,13 +19,14 @@ use crate::edit_commands::edit_refusal;
 use crate::session::Session;
 use crate::typed_line::phrase_at;
 use clip_store::{Clips, Fragment, clips_are_kept_whole, room_is_not_clipped};
+use edit_undo::undone_trees_check_alike;
 use phrase_parser::reading_has_category;
 use plcs_base::{Name, OutOfMemory, Work};
 use plcs_grammar::{Phrase, copy_phrase};
 use session_edit::{Edit, takes};
 use std::alloc::Global;
 use template_tree::{Stop, Tree, TreeFault, room_is_not_shown};
-use tree_steps::edits_follow;
+use tree_steps::{agreement_lasts, edits_follow};
 
 impl<W: Work> Session<W> {
     /// Copies what stands at the cursor into the clip of the name.
@@ -69,8 +69,8 @@ impl<W: Work> Session<W> {
         self.cut_out(alloc, name, work)
     }
 
-    /// Takes what stands at the cursor out into the clip of the name: it can be taken out, and the clips have room
-    /// for it.
+    /// Takes what stands at the cursor out, and a copy of it into the clip of the name: it can be taken out, and the
+    /// clips have room for it.
     fn cut_out(&mut self, alloc: Global, name: Name, work: &mut W) -> Result<Answer, OutOfMemory>
         requires session { IsReadyForKey self.old }
         requires takes { takes_at (plain_session self.old).tree (plain_session self.old).stop ≡ true }
@@ -88,12 +88,15 @@ impl<W: Work> Session<W> {
         room_is_not_shown();
         room_is_not_clipped();
         edits_follow();
+        agreement_lasts();
+        undone_trees_check_alike();
+        let copy = copy_there(alloc, &self.program.tree, &self.stop)?;
         self.clips.reserve(&name)?;
         self.keep_for_run(alloc)?;
-        match self.program.take(alloc, &self.stop, work) {
-            Ok(taken) => {
-                keep(&mut self.clips, name, taken.fragment);
-                Ok(self.accept_edit(taken.stop))
+        match self.program.change(alloc, &self.stop, Edit::Take, work) {
+            Ok(applied) => {
+                keep(&mut self.clips, name, copy);
+                Ok(self.accept_edit(applied))
             }
             Err(fault) => match fault {
                 TreeFault::OutOfMemory => Err(OutOfMemory),
@@ -123,7 +126,8 @@ impl<W: Work> Session<W> {
     }
 }
 
-/// The copy that `.copy` makes of what stands at the stop, from which it can be taken: nothing in it is elided.
+/// The copy that `.copy` and `.cut` make of what stands at the stop, from which it can be taken: nothing in it is
+/// elided.
 fn copy_there(alloc: Global, tree: &Tree, at: &Stop) -> Result<Fragment, OutOfMemory>
     requires tree { IsTree tree.now }
     requires taken { takes_at (roomless_tree tree.now) (plain_stop at.now) ≡ true }
@@ -152,11 +156,7 @@ fn copy_there(alloc: Global, tree: &Tree, at: &Stop) -> Result<Fragment, OutOfMe
 }
 
 /// A copy of the phrase at the stop, as a clip takes it, if there is one.
-pub(crate) fn copy_phrase_at(
-    alloc: Global,
-    tree: &Tree,
-    at: &Stop,
-) -> Result<Option<Phrase>, OutOfMemory>
+fn copy_phrase_at(alloc: Global, tree: &Tree, at: &Stop) -> Result<Option<Phrase>, OutOfMemory>
     requires { IsTree tree.now }
     ensures copy { IfOk result (λ copy. option_map plain_phrase copy
         ≡ cursor_phrase (roomless_tree tree.now) (plain_stop at.now)) }

@@ -7,11 +7,12 @@ ghost use Rattle.synth_session.specs.SessionView.{IsReadyForKey, IsSession, plai
 
 use crate::answer::{Answer, Refusal};
 use crate::session::Session;
+use edit_undo::{toggles_leave_earlier, undone_trees_check_alike};
 use plcs_base::Work;
 use plcs_grammar::{NodeKind, Template};
 use plcs_store::runs_ignore_room_and_elision;
 use template_tree::room_is_not_shown;
-use tree_steps::edits_follow;
+use tree_steps::{agreement_lasts, edits_follow};
 
 impl<W: Work> Session<W> {
     /// Does what `.elide` asks for: hides the refinement of the comment at the cursor, or shows it again.
@@ -24,6 +25,9 @@ impl<W: Work> Session<W> {
         }
         room_is_not_shown();
         edits_follow();
+        agreement_lasts();
+        toggles_leave_earlier();
+        undone_trees_check_alike();
         runs_ignore_room_and_elision();
         self.program.toggle_elision(&self.stop.path);
         self.accept_line()

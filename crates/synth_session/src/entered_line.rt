@@ -109,6 +109,7 @@ impl<W: Work> Session<W> {
             Command::Copy(name) => self.copy(alloc, name),
             Command::Insert(name) => self.insert(alloc, &name, work),
             Command::Elide => Ok(self.toggle_comment()),
+            Command::Undo => self.undo_edit(alloc, work),
             Command::Top => Ok(self.go_to_top()),
             Command::Bottom => Ok(self.go_to_bottom()),
             Command::Quit => Ok(Answer::Quit),

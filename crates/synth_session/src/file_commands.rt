@@ -101,6 +101,7 @@ impl<W: Work> Session<W> {
         self.stop = top(&program.tree);
         self.program = program;
         self.run.end();
+        self.edits.clear();
         self.top = 0;
         self.accept_line()
     }

@@ -24,13 +24,14 @@ mod session_screen;
 mod size;
 mod tick;
 mod typed_line;
+mod undo_command;
 mod window;
 
 pub use answer::{Answer, ClipRefusal, Refusal};
 pub use key::Key;
 pub use press::{
     refused_keys_change_the_message, running_keys_have_runs, runs_have_one_reply,
-    texts_have_one_reply,
+    texts_have_one_reply, undo_comes_back,
 };
 pub use session::Session;
 pub use size::ScreenSize;

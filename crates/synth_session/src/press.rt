@@ -4,15 +4,20 @@ ghost use Rattle.synth_session.specs.KeyReply.{RunsHaveOneReply, TextsHaveOneRep
 ghost use Rattle.synth_session.specs.KeyRequest.{request};
 ghost use Rattle.synth_session.specs.MemoryTaken.{key_takes_memory};
 ghost use Rattle.synth_session.specs.Press.{RefusedKeysChangeTheMessage, RefusedKeysCostNothing, RunningKeysHaveRuns, StillKeysFetchNothing, key_outcome, press};
+ghost use Rattle.synth_session.specs.UndoLaw.{EditsAreKept, UndoComesBack};
 ghost use Rattle.synth_session.specs.SessionView.{DoesByReply, IsReadyForKey, plain_session};
 
 use crate::answer::{Answer, Refusal};
 use crate::key::Key;
 use crate::session::Session;
+use edit_undo::undone_trees_check_alike;
 use phrase_parser::one_standing;
 use plcs_base::{OutOfMemory, Work};
+use plcs_code::programs_have_one_code;
+use resume_rule::{answers_follow_frames, answers_ignore_room_and_elision};
 use std::alloc::Global;
 use synth_outside::Files;
+use template_tree::checks_ignore_room_and_elision;
 
 impl<W: Work> Session<W> {
     /// Does what a key asks for, with the files where it asks something of them. Where memory runs out, the
@@ -80,6 +85,20 @@ pub fn running_keys_have_runs()
     ensures runs { RunningKeysHaveRuns }
     ensures still { StillKeysFetchNothing }
 {}
+
+/// The law of `.undo`: it comes back to the program before the latest edit that is kept, with its slots, marks and
+/// code, and with the cursor where it stood; a run may be resumed where it might be before. An edit is kept where it
+/// took out no more than may be held.
+pub fn undo_comes_back()
+    ensures back { UndoComesBack }
+    ensures kept { EditsAreKept }
+{
+    undone_trees_check_alike();
+    checks_ignore_room_and_elision();
+    programs_have_one_code();
+    answers_follow_frames();
+    answers_ignore_room_and_elision();
+}
 
 /// The law of resumption: at most one thing can be replied to whether a run may go on.
 pub fn runs_have_one_reply()

@@ -1,35 +1,37 @@
 //! The program with all that depends on it, and the four steps of its edits.
-ghost use Rattle.std.specs.Prelude.{◌≡◌, ◌≤◌, true, IfErr, IfOk, IfSome, IsSome, None, option_map};
+ghost use Rattle.std.specs.Prelude.{◌≡◌, ◌↔◌, ◌≤◌, [], All, IfErr, IfOk, IsSomeAnd, option_map};
 ghost use Rattle.plcs_base.specs.PlainCounts.{ChecksAtMost};
 ghost use Rattle.template_tree.specs.Edits.Elision.{with_toggled_at};
 ghost use Rattle.template_tree.specs.Edits.Receipt.{CanUndo, undone};
+ghost use Rattle.template_tree.specs.Edits.Reversal.{CanRevert};
+ghost use Rattle.template_tree.specs.Positions.Path.{node_at};
 ghost use Rattle.template_tree.specs.Programs.PlainTree.{roomless_node, roomless_tree};
-ghost use Rattle.template_tree.specs.Programs.Program.{IsSubtree};
-ghost use Rattle.template_tree.specs.Positions.Stop.{IsStop, plain_stop};
+ghost use Rattle.template_tree.specs.Positions.Stop.{IsStop, MayStand, plain_stop};
 ghost use Rattle.template_tree.specs.Programs.Tree.{IsTree};
 ghost use Rattle.template_tree.specs.Checks.Marks.{Verdicts};
 ghost use Rattle.decl_table.specs.Agreement.{IsDeclsOf};
-ghost use Rattle.tree_steps.specs.EditStep.{CameByEdits};
+ghost use Rattle.tree_steps.specs.EditStep.{IsEditStep};
+ghost use Rattle.edit_undo.specs.EarlierTree.{RingFits, trees_before};
+ghost use Rattle.edit_undo.specs.declared.undone.UndoFault.{UndoFault};
 ghost use Rattle.session_edit.specs.Edited.{Edited, edited};
-ghost use Rattle.session_edit.specs.Here.{takes_at};
-ghost use Rattle.session_edit.specs.PlainEdit.{BringsWhatMayStand, PlainEdit, plain_edit};
+ghost use Rattle.session_edit.specs.PlainEdit.{BringsWhatMayStand, plain_edit};
 ghost use Rattle.synth_session.specs.CheckedPhrases.{phrase_count};
 ghost use Rattle.synth_session.specs.CountedKey.{CountsProgram};
 ghost use Rattle.synth_session.specs.ProgramCode.{code_length, code_of};
-ghost use Rattle.synth_session.specs.SessionView.{Agrees, DependOn, HasCode};
+ghost use Rattle.synth_session.specs.SessionView.{Agrees, DependOn, HasCode, HasStop};
 ghost use Rattle.synth_session.specs.Private.Faults.{CountsEdit, IsEditFault};
-ghost use Rattle.synth_session.specs.Private.TakenFragment.{TakesOutFragment};
+ghost use Rattle.synth_session.specs.Private.UndoneProgram.{CountsUndo, GoesBackTo};
+ghost use Rattle.synth_session.specs.UndoCommand.{stop_or_comment};
 
-use crate::clip_commands::copy_phrase_at;
-use clip_store::Fragment;
 use decl_table::Decls;
+use edit_undo::{EditRing, UndoFault};
 use plcs_base::{OutOfMemory, Work};
 use plcs_code::{FlatCode, generate, programs_have_one_code};
 use screen_window::LineCache;
-use session_edit::{Applied, Edit, apply, edits_at_stops_are_steps};
+use session_edit::{Applied, Edit, apply, edits_at_stops_are_steps, shown_stop};
 use std::alloc::Global;
 use template_tree::{
-    Change, Node, Path, Stop, Tree, TreeFault, checks_ignore_room_and_elision, room_is_not_shown,
+    Path, Stop, Tree, TreeFault, checks_ignore_room_and_elision, room_is_not_shown,
 };
 use tree_steps::edits_follow;
 use type_marks::Marks;
@@ -50,39 +52,6 @@ pub struct Dependents<W> {
     pub decls: Decls,
     pub marks: Marks<W>,
     pub code: FlatCode<W>,
-}
-
-/// What an edit of the program leaves: where the cursor stands, the node that was taken out, if one was, and
-/// what was done in which slot.
-#[derive(Drop)]
-pub struct Changed {
-    pub stop: Stop,
-    pub taken: Option<Node>,
-    pub change: Change,
-}
-
-impl Changed {
-    /// What an edit of the program leaves that was applied.
-    fn by(applied: Applied) -> Changed
-        ensures stop { result.stop ≡ applied.stop }
-        ensures taken { result.taken ≡ applied.taken }
-        ensures change { result.change ≡ applied.receipt.change }
-    {
-        let change = applied.receipt.change();
-        Changed {
-            stop: applied.stop,
-            taken: applied.taken,
-            change,
-        }
-    }
-}
-
-/// What an edit of the program with all that depends on it leaves where it takes something out: where the
-/// cursor stands, and what was taken out.
-#[derive(Drop)]
-pub struct Taken {
-    pub stop: Stop,
-    pub fragment: Fragment,
 }
 
 impl<W: Work> Program<W> {
@@ -112,7 +81,7 @@ impl<W: Work> Program<W> {
         at: &Stop,
         edit: Edit,
         work: &mut W,
-    ) -> Result<Changed, TreeFault>
+    ) -> Result<Applied, TreeFault>
         requires agrees { Agrees self.old }
         requires stop { IsStop (roomless_tree self.old.tree).items (plain_stop at.now) }
         requires edit { BringsWhatMayStand edit }
@@ -121,10 +90,14 @@ impl<W: Work> Program<W> {
         ensures became { IfOk result (λ changed.
             edited (roomless_tree self.old.tree) (plain_stop at.now) (plain_edit edit)
             ≡ Edited.became (roomless_tree self.new.tree) (plain_stop changed.stop)
-            (option_map roomless_node changed.taken) changed.change.what changed.change.slot.0) }
+            (option_map roomless_node changed.taken) changed.receipt.change.what changed.receipt.change.slot.0) }
         ensures stop { IfOk result (λ changed. IsStop (roomless_tree self.new.tree).items (plain_stop changed.stop)) }
-        ensures taken { IfOk result (λ changed. IfSome changed.taken IsSubtree) }
-        ensures came { IfOk result (λ _. CameByEdits (roomless_tree self.old.tree) (roomless_tree self.new.tree)) }
+        ensures undoes { IfOk result (λ changed. undone changed.receipt changed.taken (roomless_tree self.new.tree)
+            ≡ roomless_tree self.old.tree) }
+        ensures can_revert { IfOk result (λ changed. CanRevert changed.receipt changed.taken
+            (roomless_tree self.new.tree)) }
+        ensures step { IfOk result (λ _. IsEditStep self.old.tree self.new.tree) }
+        ensures drawn { IfOk result (λ _. self.old.tree.drawn ≤ self.new.tree.drawn) }
         ensures refused { IfErr result
             (IsEditFault (edited (roomless_tree self.old.tree) (plain_stop at.now) (plain_edit edit))) }
         ensures same { IfErr result (λ _. roomless_tree self.new.tree ≡ roomless_tree self.old.tree) }
@@ -137,7 +110,7 @@ impl<W: Work> Program<W> {
         self.lines.forget();
         let applied = apply(alloc, &mut self.tree, at, edit)?;
         match self.renew(alloc, work) {
-            Ok(()) => Ok(Changed::by(applied)),
+            Ok(()) => Ok(applied),
             Err(OutOfMemory) => {
                 layouts_ignore_room();
                 checks_ignore_room_and_elision();
@@ -174,72 +147,42 @@ impl<W: Work> Program<W> {
         self.dependents = dependents;
     }
 
-    /// Takes what stands at the stop out of the program and of all that depends on it; it is something that can be
-    /// taken from there. A phrase is copied first.
-    pub(crate) fn take(
+    /// Undoes the newest of the edits in the program: the tree before it comes back, then all memory is taken that
+    /// what depends on it needs, and then that is put in place. Where memory runs out, tree and edits are given back.
+    /// Tells where the cursor goes.
+    pub(crate) fn undo(
         &mut self,
         alloc: Global,
-        at: &Stop,
+        edits: &mut EditRing,
         work: &mut W,
-    ) -> Result<Taken, TreeFault>
+    ) -> Result<Stop, UndoFault>
         requires agrees { Agrees self.old }
-        requires stop { IsStop (roomless_tree self.old.tree).items (plain_stop at.now) }
-        requires taken { takes_at (roomless_tree self.old.tree) (plain_stop at.now) ≡ true }
-        ensures taken { TakesOutFragment self.old self.new at.now result }
+        requires fits { RingFits edits.old (roomless_tree self.old.tree) }
+        requires stops { All HasStop (trees_before edits.old (roomless_tree self.old.tree)) }
+        ensures agrees { Agrees self.new }
         ensures code { HasCode self.old → HasCode self.new }
-        ensures came { IfOk result (λ _. CameByEdits (roomless_tree self.old.tree) (roomless_tree self.new.tree)) }
-        ensures counts { CountsEdit (edited (roomless_tree self.old.tree) (plain_stop at.now) PlainEdit.take)
-            (W.counts work.old) (W.counts work.new) }
+        ensures undone { IfOk result (λ stop. GoesBackTo edits.old (roomless_tree self.old.tree)
+            edits.new (roomless_tree self.new.tree) (plain_stop stop)) }
+        ensures stop { IfOk result (λ stop. IsStop (roomless_tree self.new.tree).items (plain_stop stop)) }
+        ensures fits { RingFits edits.new (roomless_tree self.new.tree) }
+        ensures none { IfErr result (λ fault. (fault ≡ UndoFault.NothingToUndo) ↔ (edits.old ≡ [])) }
+        ensures same { IfErr result (λ _. roomless_tree self.new.tree ≡ roomless_tree self.old.tree) }
+        ensures same_earlier { IfErr result (λ _. trees_before edits.new (roomless_tree self.new.tree)
+            ≡ trees_before edits.old (roomless_tree self.old.tree)) }
+        ensures counts { CountsUndo edits.old (roomless_tree self.old.tree) (W.counts work.old) (W.counts work.new) }
     {
-        match at.part {
-            None => self.take_node(alloc, at, work),
-            Some(_) => self.take_phrase(alloc, at, work),
+        room_is_not_shown();
+        let undone = edits.undo(&mut self.tree)?;
+        self.lines.forget();
+        match self.renew(alloc, work) {
+            Ok(()) => Ok(stop_or_comment(&self.tree, undone.stop)),
+            Err(OutOfMemory) => {
+                layouts_ignore_room();
+                checks_ignore_room_and_elision();
+                edits.put_back(&mut self.tree, undone);
+                Err(UndoFault::OutOfMemory)
+            }
         }
-    }
-
-    /// Takes the node at the stop out of the program and of all that depends on it; it is one that can be taken from
-    /// there.
-    fn take_node(&mut self, alloc: Global, at: &Stop, work: &mut W) -> Result<Taken, TreeFault>
-        requires agrees { Agrees self.old }
-        requires stop { IsStop (roomless_tree self.old.tree).items (plain_stop at.now) }
-        requires node { at.now.part ≡ None }
-        requires taken { takes_at (roomless_tree self.old.tree) (plain_stop at.now) ≡ true }
-        ensures taken { TakesOutFragment self.old self.new at.now result }
-        ensures code { HasCode self.old → HasCode self.new }
-        ensures came { IfOk result (λ _. CameByEdits (roomless_tree self.old.tree) (roomless_tree self.new.tree)) }
-        ensures counts { CountsEdit (edited (roomless_tree self.old.tree) (plain_stop at.now) PlainEdit.take)
-            (W.counts work.old) (W.counts work.new) }
-    {
-        let Changed { stop, taken, .. } = self.change(alloc, at, Edit::Take, work)?;
-        match taken {
-            Some(node) => Ok(Taken {
-                stop,
-                fragment: Fragment::Node(node),
-            }),
-            None => unreachable!(),
-        }
-    }
-
-    /// Takes the phrase at the stop out of the program and of all that depends on it; a copy of it is made first.
-    fn take_phrase(&mut self, alloc: Global, at: &Stop, work: &mut W) -> Result<Taken, TreeFault>
-        requires agrees { Agrees self.old }
-        requires stop { IsStop (roomless_tree self.old.tree).items (plain_stop at.now) }
-        requires part { IsSome at.now.part }
-        requires taken { takes_at (roomless_tree self.old.tree) (plain_stop at.now) ≡ true }
-        ensures taken { TakesOutFragment self.old self.new at.now result }
-        ensures code { HasCode self.old → HasCode self.new }
-        ensures came { IfOk result (λ _. CameByEdits (roomless_tree self.old.tree) (roomless_tree self.new.tree)) }
-        ensures counts { CountsEdit (edited (roomless_tree self.old.tree) (plain_stop at.now) PlainEdit.take)
-            (W.counts work.old) (W.counts work.new) }
-    {
-        let Some(phrase) = copy_phrase_at(alloc, &self.tree, at)? else {
-            unreachable!()
-        };
-        let changed = self.change(alloc, at, Edit::Take, work)?;
-        Ok(Taken {
-            stop: changed.stop,
-            fragment: Fragment::Phrase(phrase),
-        })
     }
 
     /// Hides the refinement of the comment at the path of the program, or shows it again, in its tree and in what
@@ -268,6 +211,28 @@ fn undo(tree: &mut Tree, applied: Applied)
     ensures tree { IsTree tree.new }
 {
     tree.undo(applied.receipt, applied.taken);
+}
+
+/// Where the cursor goes for a stop of the program's tree: to that stop, or, where it is hidden, to the outermost
+/// elided comment round it.
+fn stop_or_comment(tree: &Tree, stop: Stop) -> Stop
+    requires tree { IsTree tree.now }
+    requires there { IsSomeAnd (node_at tree.now.items stop.path.items) (λ node. MayStand stop.part node.label.kind) }
+    ensures shown { plain_stop result ≡ stop_or_comment (roomless_tree tree.now) (plain_stop stop) }
+    ensures stop { IsStop (roomless_tree tree.now).items (plain_stop result) }
+{
+    room_is_not_shown();
+    let Some(node) = tree.node(&stop.path) else {
+        unreachable!()
+    };
+    let Some(shown) = shown_stop(tree, node.slot()) else {
+        unreachable!()
+    };
+    if shown.path.as_slice() == stop.path.as_slice() {
+        stop
+    } else {
+        shown
+    }
 }
 
 impl<W: Work> Dependents<W> {

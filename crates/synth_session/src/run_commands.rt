@@ -4,7 +4,7 @@ ghost use Rattle.synth_session.specs.PlainRun.{PlainRun};
 ghost use Rattle.synth_session.specs.RunCommands.{back_outcome, begun_outcome, going_outcome, input_outcome, most_steps, resume_outcome, run_outcome, running_outcome, step_outcome, trace_outcome};
 ghost use Rattle.synth_session.specs.Private.MemorylessKey.{HasOutcome};
 ghost use Rattle.synth_session.specs.Private.RunReply.{HasOutcomeByReply, DoesByRun};
-ghost use Rattle.synth_session.specs.SessionView.{Agrees, CountsOutcome, Does, HasFittingRun, HasProgramCode, IsPlaced, IsReadyForKey, plain_session};
+ghost use Rattle.synth_session.specs.SessionView.{Agrees, CountsOutcome, Does, HasFittingEdits, HasFittingRun, HasProgramCode, IsPlaced, IsReadyForKey, plain_session};
 
 use crate::answer::{Answer, Refusal};
 use crate::session::Session;
@@ -169,6 +169,7 @@ impl<W: Work> Session<W> {
         requires placed { IsPlaced (plain_session self.old) }
         requires code { HasProgramCode self.old }
         requires run { HasFittingRun self.old }
+        requires edits { HasFittingEdits self.old }
         requires stands { IsSome (plain_session self.old).run }
         ensures { (fetches : ℕ) → (run : PlainRun) → (plain_session self.old).run ≡ Some run →
             HasOutcome (running_outcome (plain_session self.old) steps fetches run) self.old self.new result }

@@ -19,7 +19,7 @@ ghost use Rattle.synth_session.specs.RefusalText.{refusal_text};
 ghost use Rattle.synth_session.specs.SessionScreen.{run_output};
 ghost use Rattle.synth_session.specs.Window.{with_cursor_seen};
 ghost use Rattle.synth_session.specs.Private.MemorylessKey.{HasOutcome};
-ghost use Rattle.synth_session.specs.SessionView.{Agrees, HasFittingRun, HasProgramCode, IsPlaced, IsReadyForKey, IsSession, next_grid, plain_session, shown_grid};
+ghost use Rattle.synth_session.specs.SessionView.{Agrees, HasFittingEdits, HasFittingRun, HasProgramCode, IsPlaced, IsReadyForKey, IsSession, next_grid, plain_session, shown_grid};
 
 use crate::answer::{Answer, Refusal};
 use crate::code_rows::CodeRows;
@@ -33,6 +33,7 @@ use crate::window::top_showing;
 use arrayvec::ArrayVec;
 use clip_store::Clips;
 use cursor_moves::top;
+use edit_undo::EditRing;
 use plcs_base::{ByteOut, OutOfMemory, Work};
 use session_words::{Message, Notice};
 use std::alloc::Global;
@@ -54,6 +55,7 @@ pub struct Session<W> {
     pub(crate) run: HeldRun,
     pub(crate) asked: u32,
     pub(crate) made: u32,
+    pub(crate) edits: EditRing,
     pub(crate) screens: Screens,
     pub(crate) code_rows: CodeRows,
 }
@@ -116,6 +118,7 @@ impl<W: Work> Session<W> {
         let code_rows = CodeRows::new(alloc)?;
         let run = HeldRun::new(alloc)?;
         let clips = Clips::new(alloc)?;
+        let edits = EditRing::new(alloc)?;
         let program = Program::new(alloc, tree, work)?;
         let mut session = Session {
             program,
@@ -130,6 +133,7 @@ impl<W: Work> Session<W> {
             run,
             asked: 0,
             made: 0,
+            edits,
             screens,
             code_rows,
         };
@@ -199,6 +203,7 @@ impl<W: Work> Session<W> {
         requires placed { IsPlaced (plain_session self.old) }
         requires code { HasProgramCode self.old }
         requires run { HasFittingRun self.old }
+        requires edits { HasFittingEdits self.old }
         ensures { HasOutcome (acceptance_outcome (plain_session self.old)) self.old self.new result }
     {
         self.follow();
@@ -213,6 +218,7 @@ impl<W: Work> Session<W> {
         ensures session { IsSession self.new }
         ensures seen { plain_session self.new ≡ with_cursor_seen (plain_session self.old) }
         ensures program { self.new.program ≡ self.old.program }
+        ensures edits { self.new.edits ≡ self.old.edits }
         ensures run { self.new.run ≡ self.old.run }
         ensures screens { self.new.screens ≡ self.old.screens }
     {
@@ -230,6 +236,7 @@ impl<W: Work> Session<W> {
         requires placed { IsPlaced (plain_session self.old) }
         requires code { HasProgramCode self.old }
         requires run { HasFittingRun self.old }
+        requires edits { HasFittingEdits self.old }
         ensures { HasOutcome (line_acceptance_outcome (plain_session self.old)) self.old self.new result }
     {
         self.typed.clear();
@@ -242,6 +249,7 @@ impl<W: Work> Session<W> {
         requires placed { IsPlaced (plain_session self.old) }
         requires code { HasProgramCode self.old }
         requires run { HasFittingRun self.old }
+        requires edits { HasFittingEdits self.old }
         ensures { HasOutcome (line_notice_outcome (plain_session self.old) notice) self.old self.new result }
     {
         let answer = self.accept_line();

@@ -75,6 +75,7 @@ impl<W: Work> Session<W> {
         ensures same { plain_session self.new ≡ plain_session self.old }
         ensures program { self.new.program ≡ self.old.program }
         ensures run { self.new.run ≡ self.old.run }
+        ensures edits { self.new.edits ≡ self.old.edits }
         ensures screens { self.new.screens ≡ self.old.screens }
         ensures counted { FetchesBy (screen_fetches (plain_session self.old)) (W.counts work.old) (W.counts work.new) }
     {

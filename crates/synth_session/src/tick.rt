@@ -45,6 +45,7 @@ impl<W: Work> Session<W> {
             (W.counts work.old) (W.counts work.new) result }
         ensures session { IsSession self.new }
         ensures program { self.new.program ≡ self.old.program }
+        ensures edits { self.new.edits ≡ self.old.edits }
         ensures screens { self.new.screens ≡ self.old.screens }
         ensures fits { HasProgramCode self.old → RunFits (plain_session self.old)
             → HasFittingRun self.old → HasFittingRun self.new }
@@ -102,6 +103,7 @@ impl<W: Work> Session<W> {
             (W.counts work.old) (W.counts work.new) result }
         ensures session { IsSession self.new }
         ensures program { self.new.program ≡ self.old.program }
+        ensures edits { self.new.edits ≡ self.old.edits }
         ensures screens { self.new.screens ≡ self.old.screens }
         ensures fits { HasProgramCode self.old → RunFits (plain_session self.old)
             → HasFittingRun self.old → HasFittingRun self.new }
@@ -139,6 +141,7 @@ impl<W: Work> Session<W> {
             (W.counts work.old) (W.counts work.new) result }
         ensures session { IsSession self.new }
         ensures program { self.new.program ≡ self.old.program }
+        ensures edits { self.new.edits ≡ self.old.edits }
         ensures screens { self.new.screens ≡ self.old.screens }
         ensures fits { HasProgramCode self.old → RunFits (plain_session self.old)
             → HasFittingRun self.old → HasFittingRun self.new }
@@ -172,6 +175,7 @@ impl<W: Work> Session<W> {
         ensures calls { OnErr result (CallsNext (own_steps self.old) (plain_session self.old)) }
         ensures session { IsSession self.new }
         ensures program { self.new.program ≡ self.old.program }
+        ensures edits { self.new.edits ≡ self.old.edits }
         ensures input { self.new.input ≡ self.old.input }
         ensures screens { self.new.screens ≡ self.old.screens }
         ensures fits { HasProgramCode self.old → RunFits (plain_session self.old)
@@ -203,6 +207,7 @@ impl<W: Work> Session<W> {
             ≡ settled (rested_in (plain_session self.old) reason (plain_session self.old).run) }
         ensures session { IsSession self.new }
         ensures program { self.new.program ≡ self.old.program }
+        ensures edits { self.new.edits ≡ self.old.edits }
         ensures screens { self.new.screens ≡ self.old.screens }
         ensures fits { HasFittingRun self.old → HasFittingRun self.new }
         ensures stays_fit { RunFits (plain_session self.old) → RunFits (plain_session self.new) }
@@ -219,6 +224,7 @@ impl<W: Work> Session<W> {
         ensures settled { plain_session self.new ≡ settled (plain_session self.old) }
         ensures session { IsSession self.new }
         ensures program { self.new.program ≡ self.old.program }
+        ensures edits { self.new.edits ≡ self.old.edits }
         ensures run { self.new.run ≡ self.old.run }
         ensures screens { self.new.screens ≡ self.old.screens }
     {
@@ -234,6 +240,7 @@ impl<W: Work> Session<W> {
         ensures gone { plain_session self.new ≡ with_cursor_at_run (plain_session self.old) }
         ensures placed { IsPlaced (plain_session self.new) }
         ensures program { self.new.program ≡ self.old.program }
+        ensures edits { self.new.edits ≡ self.old.edits }
         ensures run { self.new.run ≡ self.old.run }
         ensures screens { self.new.screens ≡ self.old.screens }
     {

@@ -5,8 +5,8 @@ use Rattle.std.specs.Option.{option_or}
 use Rattle.std.proofs.Common.{ap, sym, ◌∙◌}
 use Rattle.plcs_base.specs.declared.declared.Declared.{Declared}
 use Rattle.plcs_base.specs.declared.declared.ItemType.{ItemType}
-use Rattle.template_tree.specs.Laws.CheckLaws.{CheckAlike, ChecksIgnoreElision, ChecksIgnoreRoom}
-use Rattle.template_tree.specs.Edits.Edit.{edit_at, edit_below, give_way}
+use Rattle.template_tree.specs.Laws.CheckLaws.{CheckAlike, ChecksIgnoreAllElision, ChecksIgnoreElision, ChecksIgnoreRoom}
+use Rattle.template_tree.specs.Edits.Edit.{edit_at, edit_below, give_way, whole}
 use Rattle.template_tree.specs.Edits.Elision.{is_comment, toggled}
 use Rattle.template_tree.specs.Checks.Environment.{Heading, Items, Sig, Signature, all_declared, declares, effective, heading_of, items_inside, may_be_called, parameter_kinds, procedure_at, signature_of, type_given}
 use Rattle.template_tree.specs.Checks.Marks.{VerdictList, VerdictMap, Verdicts, declared_before, node_verdicts, part_verdicts, procedure_verdicts, procedures_before, surroundings, type_in}
@@ -209,6 +209,14 @@ alike one other same =
 
 pub checks_ignore_room : ChecksIgnoreRoom
 checks_ignore_room items = alike (roomless items) items (content_roomless items)
+
+content_is : (items : Forest) → content items ≡ roomless (whole items)
+content_is Forest.nil = refl
+content_is (Forest.cons label inner rest) =
+    λ i. Forest.cons (record label { elided = false; spare = 0 }) (content_is inner i) (content_is rest i)
+
+pub checks_ignore_all_elision : ChecksIgnoreAllElision
+checks_ignore_all_elision one other same = alike one other (content_is one ∙ (same ∙ sym (content_is other)))
 
 pub checks_ignore_elision : ChecksIgnoreElision
 checks_ignore_elision items path = alike (edit_at toggled path items) items (content_turned path items)

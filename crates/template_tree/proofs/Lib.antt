@@ -14,6 +14,8 @@ pub mod Puts
 pub mod Parts
 -- `add_hole` and `drop_hole`, `add_keeps_tree`, `drop_keeps_tree`: holes that come into lists, or leave them
 pub mod Lists
+-- `revert`, and `can_revert` of each edit: earlier trees that come back
+pub mod Reversals
 -- `room_is_not_shown`, `edits_ignore_room`, and what every edit says without room
 pub mod Room
 -- `checks_ignore_room_and_elision`

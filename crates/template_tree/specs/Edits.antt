@@ -6,6 +6,7 @@ pub mod Elision
 pub mod FreshNode
 pub mod TreeEdit
 pub mod Receipt
+pub mod Reversal
 pub mod ListItem
 pub mod EditAnswer
 pub mod Copy

@@ -10,5 +10,6 @@ pub mod NodeLines
 -- ---- an edit in its steps
 pub mod Exchange
 pub mod Restored
+pub mod Exchanged
 -- ---- lists of items
 pub mod Apart

@@ -11,7 +11,8 @@
 //! `beside` the next path in a list, the path before, and on which side of an item another lies, `list_item`
 //! whether it is in a list, and whether two of its sort are; by a slot: `path_of` its path. `hole` is which hole
 //! stands for which kind. `build` makes nodes and trees from their leaves, and draws the slots of nodes, also
-//! of those that come into a slot. `change` says what an edit changed, `receipt` what undoes it, and `undo` does.
+//! of those that come into a slot. `change` says what an edit changed, `receipt` what undoes it; `undo` does,
+//! with the slots that were drawn then, and `revert`, with those that are drawn by now.
 #![tactic(auto)]
 
 mod around_path;
@@ -45,6 +46,7 @@ mod path_of;
 mod phrase_place;
 mod put_part;
 mod receipt;
+mod revert;
 mod room_laws;
 mod sections_left;
 mod set_phrase;
@@ -80,6 +82,6 @@ pub use stop::{Stop, copy_stop};
 pub use tree::Tree;
 pub use tree_fault::TreeFault;
 pub use tree_laws::{
-    add_keeps_tree, drop_keeps_tree, part_keeps_tree, put_keeps_tree, set_part_keeps_tree,
-    slot_edit_is_path_edit, undo_stays_possible,
+    add_keeps_tree, drop_keeps_tree, part_keeps_tree, put_keeps_tree, receipts_revert_to_undone,
+    reverts_ignore_elision, set_part_keeps_tree, slot_edit_is_path_edit, undo_stays_possible,
 };

@@ -142,7 +142,7 @@ impl Tree {
     }
 
     /// Drops the hole at the path from its list, if one is there, and gives it; the tree's counts stay.
-    fn drop_item(&mut self, path: &Path) -> Option<Node>
+    pub(crate) fn drop_item(&mut self, path: &Path) -> Option<Node>
         ensures taken { result ≡ node_at self.old.items path.now.items }
         ensures others { roomless_tree self.new ≡ with_edit (λ _. []) path.now.items (roomless_tree self.old) }
         ensures none { IfNone result (self.new ≡ self.old) }

@@ -1,5 +1,5 @@
 //! Nodes, and the lists in which they stand.
-ghost use Rattle.std.specs.Prelude.{◌≡◌, ℕ, ◌+◌, ◌-◌, ◌^◌, ◌<◌, ◌≤◌, ◌∷◌, ◌++◌, [], IfErr, IfOk, OnOk, length, option_map, slice_get, map, Some};
+ghost use Rattle.std.specs.Prelude.{◌≡◌, ℕ, ◌+◌, ◌-◌, ◌^◌, ◌<◌, ◌≤◌, ◌∷◌, ◌++◌, [], IfErr, IfOk, IsOk, OnOk, length, option_map, slice_get, map, Some};
 ghost use Rattle.std.specs.Borrow.{LendsIf, sem};
 ghost use Rattle.template_tree.specs.contracts.node.Node as node_row;
 ghost use Rattle.template_tree.specs.contracts.node.Nodes as list_row;
@@ -213,6 +213,7 @@ impl Nodes {
     /// Takes memory for one node more in the list.
     pub(crate) fn reserve_one(&mut self) -> Result<(), OutOfMemory>
         ensures room { OnOk result (0 < self.new.spare) }
+        ensures had_room { 0 < self.old.spare → IsOk result }
         ensures items { self.new.items ≡ self.old.items }
         ensures refused { IfErr result (λ _. self.new ≡ self.old) }
     {

@@ -1,5 +1,5 @@
 //! The laws of trees, each a function that does nothing and whose contract states it.
-ghost use Rattle.template_tree.specs.Laws.TreeLaws.{AddKeepsTree, DropKeepsTree, PartKeepsTree, PutKeepsTree, SetPartKeepsTree, SlotEditIsPathEdit, UndoStaysPossible};
+ghost use Rattle.template_tree.specs.Laws.TreeLaws.{AddKeepsTree, DropKeepsTree, PartKeepsTree, PutKeepsTree, RevertsIgnoreElision, RevertsToUndone, SetPartKeepsTree, SlotEditIsPathEdit, TurnsAreElision, UndoStaysPossible};
 
 /// An edit by slot is the edit at the path of the node that stands there.
 pub fn slot_edit_is_path_edit()
@@ -35,4 +35,15 @@ pub fn drop_keeps_tree()
 /// An edit can be undone also after later ones were made and undone again.
 pub fn undo_stays_possible()
     ensures { UndoStaysPossible }
+{}
+
+/// A tree that comes back by a receipt is, but for the slots drawn, the one to which the receipt is undone.
+pub fn receipts_revert_to_undone()
+    ensures { RevertsToUndone }
+{}
+
+/// Which comments are elided in a tree makes no difference to what its receipts revert it to.
+pub fn reverts_ignore_elision()
+    ensures reverts { RevertsIgnoreElision }
+    ensures turns { TurnsAreElision }
 {}

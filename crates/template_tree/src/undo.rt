@@ -94,7 +94,7 @@ impl Tree {
     }
 
     /// Undoes a drop: puts the hole, which an edit dropped, back into its list beside the item at the path.
-    fn restore_dropped(&mut self, path: &Path, side: Side, hole: Node)
+    pub(crate) fn restore_dropped(&mut self, path: &Path, side: Side, hole: Node)
         requires tree { IsTree self.old }
         requires room { 0 < list_room self.old.spare self.old.items path.now.items }
         ensures { roomless_tree self.new ≡ with_edit (with_beside side (roomless_node hole)) path.now.items

@@ -33,7 +33,7 @@ pub(crate) enum Case {
 }
 
 /// Each word that a case on trees begins with, with its case.
-pub(crate) static CASES: [(&[u8], Case); 46] = [
+pub(crate) static CASES: [(&[u8], Case); 47] = [
     (b"fill", Case::Edit(EditWord::Fill)),
     (b"fill_assign", Case::Edit(EditWord::FillAssign)),
     (b"set_phrase", Case::Edit(EditWord::SetPhrase)),
@@ -46,6 +46,7 @@ pub(crate) static CASES: [(&[u8], Case); 46] = [
     (b"nest", Case::Edits(EditsCall::Nest)),
     (b"walk", Case::Edits(EditsCall::Walk)),
     (b"random_walk", Case::Edits(EditsCall::RandomWalk)),
+    (b"noted", Case::Edits(EditsCall::Noted)),
     (b"apply", Case::AtStop(StopCall::Apply)),
     (b"try", Case::AtStop(StopCall::Try)),
     (b"move", Case::AtStop(StopCall::Move)),

@@ -3,6 +3,7 @@ ghost use Rattle.template_tree.specs.Programs.Tree.{IsTree};
 
 use crate::edit::{Edit, EditWord, Step, made, step_of, step_with};
 use crate::tell::tell_change;
+use crate::undo_calls;
 use crate::walk::{Walked, drawn_steps, walk};
 use crate::words::{TEMPLATES, path};
 use case_script::{Told, meaning, number_of, words_of};
@@ -24,6 +25,8 @@ pub(crate) enum EditsCall {
     /// `random_walk SEED TIMES LEAST`: so too with so many edits drawn at random, of which more than the least
     /// number are to be made.
     RandomWalk,
+    /// `noted`: makes the edits of the lines of text at stops, notes them, and undoes them as the lines say.
+    Noted,
 }
 
 /// Plays a case of many edits.
@@ -42,6 +45,7 @@ pub(crate) fn play(
         (EditsCall::Repeat, [times, words @ ..]) => repeat(alloc, tree, times, words, told),
         (EditsCall::Nest, [times, at, template]) => nest(alloc, tree, times, at, template, told),
         (EditsCall::Walk, _) => walk_lines(alloc, tree, text, told),
+        (EditsCall::Noted, []) => undo_calls::noted(alloc, tree, text, told),
         (EditsCall::RandomWalk, [seed, times, least]) => {
             walk_at_random(alloc, tree, seed, times, least, told)
         }
@@ -218,7 +222,7 @@ fn walk_lines(alloc: Global, tree: &mut Tree, text: &[u8], told: &mut Told) -> O
 }
 
 /// For a case of many edits that are undone, the words of each line of its text; a line says one edit.
-fn lines_of(alloc: Global, text: &[u8]) -> Option<Vec<Vec<Vec<u8>>>> {
+pub(crate) fn lines_of(alloc: Global, text: &[u8]) -> Option<Vec<Vec<Vec<u8>>>> {
     let mut lines = Vec::new(alloc);
     for line in text.split(|byte| *byte == b'\n') {
         let words = words_of(alloc, line).ok()??;

@@ -15,6 +15,7 @@ mod stop_calls;
 mod stop_edits;
 mod tell;
 mod tree_calls;
+mod undo_calls;
 mod walk;
 mod words;
 

@@ -143,7 +143,7 @@ fn insert_at(alloc: Global, tree: &mut Tree, at: &[u8], node: Node, told: &mut T
 
 /// Tells what an edit did in which slot, where the cursor goes, how many slots are live then, and what was
 /// taken out.
-fn tell_applied(tree: &Tree, applied: &Applied, told: &mut Told)
+pub(crate) fn tell_applied(tree: &Tree, applied: &Applied, told: &mut Told)
     requires { IsTree tree.now }
 {
     let change = applied.receipt.change();
@@ -162,7 +162,7 @@ fn tell_applied(tree: &Tree, applied: &Applied, told: &mut Told)
 }
 
 /// Tells why an edit at a stop is refused, and how many slots are live.
-fn tell_refused(tree: &Tree, fault: TreeFault, told: &mut Told)
+pub(crate) fn tell_refused(tree: &Tree, fault: TreeFault, told: &mut Told)
     requires { IsTree tree.now }
 {
     told.value(&fault);
@@ -227,7 +227,7 @@ fn tell_shown(tree: &Tree, slot: &[u8], told: &mut Told) -> Option<()>
 
 /// The visible stop at which a case edits, by its word: that at which the slot of its node is shown, or one of
 /// the parts behind that.
-fn stop_at(tree: &Tree, word: &[u8]) -> Option<Stop>
+pub(crate) fn stop_at(tree: &Tree, word: &[u8]) -> Option<Stop>
     requires { IsTree tree.now }
     ensures { IfSome result (λ stop. IsStop (roomless_tree tree.now).items (plain_stop stop)) }
 {
@@ -284,7 +284,7 @@ static STOP_EDITS: [(&[u8], StopEdit); 7] = [
 ];
 
 /// The edit at the stop of the cursor that the words of a case say.
-fn edit_of(alloc: Global, tree: &Tree, words: &[Vec<u8>]) -> Option<Edit>
+pub(crate) fn edit_of(alloc: Global, tree: &Tree, words: &[Vec<u8>]) -> Option<Edit>
     requires { IsTree tree.now }
     ensures { IfSome result BringsWhatMayStand }
 {

@@ -69,7 +69,7 @@ pub(crate) fn walk(
 }
 
 /// All that a tree shows on a walk of edits.
-fn picture_of(alloc: Global, tree: &Tree) -> Told
+pub(crate) fn picture_of(alloc: Global, tree: &Tree) -> Told
     requires { IsTree tree.now }
 {
     let mut picture = Told::new(alloc);

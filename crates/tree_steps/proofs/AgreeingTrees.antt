@@ -13,8 +13,8 @@ use Rattle.template_tree.specs.Programs.Slots.{AllBelow}
 use Rattle.template_tree.specs.Programs.Tree.{IsTree}
 use Rattle.template_tree.specs.Edits.TreeEdit.{TreeEdit, tree_after}
 use Rattle.tree_steps.specs.SlotAgreement.{AgreesWith}
-use Rattle.tree_steps.specs.AgreementLaws.{AgreementKeepsProcedures, EditsAgree, GoingBackAgrees, GoingBackPastAgrees, EditStepsKeepAgreement}
-use Rattle.tree_steps.specs.EditStep.{BringsSort, CameIn, IsEditStep}
+use Rattle.tree_steps.specs.AgreementLaws.{AgreementKeepsProcedures, EarlierAgreesAlike, EditsAgree, GoingBackAgrees, GoingBackPastAgrees, EditStepsKeepAgreement}
+use Rattle.tree_steps.specs.EditStep.{BringsSort, CameIn, IsEditStep, substance}
 use Rattle.tree_steps.specs.StandingSlot.{Around, StandsBelow, StandsInside, outermost_slot}
 use Rattle.tree_steps.proofs.EditedSlots.{HasSort, Stood, add_new, drop_new, part_new, put_new, standing_below, stood}
 use Rattle.tree_steps.proofs.StandingSlots.{counted_stands, procedures_stand_outermost, stands_once}
@@ -134,6 +134,24 @@ going_back_past_agrees one other back agrees drawn same =
           agrees.alike slot now was later around (subst (λ (T : Type 0). T) (stands_same back.items one.items slot now later same) stands)
           other_stands in
           (sym alike.0, sym alike.1);
+    }
+
+-- slots are below a number in the substance where they are so in the nodes
+below_substance : (number : ℕ) (items : Forest) → AllBelow number (substance items) ≡ AllBelow number items
+below_substance number Forest.nil = refl
+below_substance number (Forest.cons label inner rest) =
+    λ i. (label.slot < number) × below_substance number inner i × below_substance number rest i
+
+pub earlier_agrees_alike : EarlierAgreesAlike
+earlier_agrees_alike one other later same agrees =
+    record {
+      drawn =
+          subst (λ (T : Type 0). T)
+          (sym (below_substance later.drawn one.items) ∙ (ap (AllBelow later.drawn) same ∙ below_substance later.drawn other.items))
+          agrees.drawn;
+      alike = λ slot was now around inside earlier_stands stands.
+          agrees.alike slot was now around inside
+          (subst (λ (T : Type 0). T) (stands_same other.items one.items slot was around (sym same)) earlier_stands) stands;
     }
 
 -- a tree agrees with itself

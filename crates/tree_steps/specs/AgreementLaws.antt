@@ -60,6 +60,12 @@ GoingBackPastAgrees =
     (one other back : PlainTree) → AgreesWith one other → AllBelow back.drawn other.items
     → substance back.items ≡ substance one.items → AgreesWith other back
 
+-- the elision and the room of the earlier tree make no difference to agreement
+abbrev pub EarlierAgreesAlike : Type 0
+EarlierAgreesAlike =
+    (one other later : PlainTree) → substance one.items ≡ substance other.items → AgreesWith one later
+    → AgreesWith other later
+
 -- a slot that is live in trees that agree stands in the same procedure
 abbrev pub AgreementKeepsProcedures : Type 0
 AgreementKeepsProcedures =

@@ -23,6 +23,7 @@ alone_command alone.Before = PlainCommand.before
 alone_command alone.After = PlainCommand.after
 alone_command alone.Del = PlainCommand.del
 alone_command alone.Elide = PlainCommand.elide
+alone_command alone.Undo = PlainCommand.undo
 alone_command alone.Top = PlainCommand.top
 alone_command alone.Bottom = PlainCommand.bottom
 alone_command alone.Run = PlainCommand.run

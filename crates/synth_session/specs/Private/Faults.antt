@@ -6,8 +6,6 @@ use Rattle.plcs_grammar.specs.PlainPhrase.{plain_phrase}
 use Rattle.phrase_parser.specs.Standing.{Standing}
 use Rattle.phrase_parser.specs.declared.fault.PhraseFault.{PhraseFault}
 use Rattle.phrase_parser.specs.declared.fault.PhraseFault.TheVariants.{Syntax, NumberTooLarge, TooDeep, OutOfMemory}
-use Rattle.template_tree.specs.Programs.PlainTree.{PlainTree}
-use Rattle.template_tree.specs.Positions.Stop.{PlainStop}
 use Rattle.template_tree.specs.declared.tree_fault.TreeFault.{TreeFault}
 use Rattle.session_edit.specs.Edited.{Edited}
 use Rattle.plcs_base.specs.PlainCounts.{CountsNothing, PlainCounts}
@@ -21,11 +19,6 @@ use Rattle.synth_session.specs.ProgramCode.{code_length}
 abbrev pub IsEditFault : Edited → TreeFault → Type 0
 IsEditFault outcome TreeFault.OutOfMemory = Unit {0}
 IsEditFault outcome fault = outcome ≡ Edited.refused fault
-
--- this outcome of an edit of the program is this tree, with the cursor at this stop
-abbrev pub HasBecome : Edited → PlainTree → PlainStop → Type 0
-HasBecome (Edited.became tree stop taken what slot) after to = (tree ≡ after) × (stop ≡ to)
-HasBecome (Edited.refused fault) after to = ⊥
 
 -- what is counted where an edit of the program comes to this: each phrase of the program after it is checked once at
 -- most, and each instruction of its code emitted once at most

@@ -12,11 +12,11 @@ use Rattle.template_tree.proofs.Edits.SlotEdits.{present}
 use Rattle.template_tree.proofs.Edits.EditedNodes.{node_there, first_slot}
 
 -- a slot that stands in an item or not
-abbrev has : ℕ → PlainNode → Bool
+abbrev pub has : ℕ → PlainNode → Bool
 has slot item = nat_lt 0 (times slot (forest (item ∷ [])))
 
 -- the slot of the item that is found among these
-abbrev slot_found : (PlainNode → Bool) → List PlainNode → Option ℕ
+abbrev pub slot_found : (PlainNode → Bool) → List PlainNode → Option ℕ
 slot_found test items = option_map (λ item. item.label.slot) (find test items)
 
 -- the first item has it
@@ -25,7 +25,7 @@ found_first : (test : PlainNode → Bool) (item : PlainNode) (items : List Plain
 found_first test item items e = rw e refl
 
 -- the first item hasn't
-found_later : (test : PlainNode → Bool) (item : PlainNode) (items : List PlainNode) → test item ≡ false
+pub found_later : (test : PlainNode → Bool) (item : PlainNode) (items : List PlainNode) → test item ≡ false
     → slot_found test (item ∷ items) ≡ slot_found test items
 found_later test item items e = rw e refl
 

@@ -13,7 +13,7 @@ zero_if true n e = absurd (omega arith)
 zero_if false n e = refl
 
 -- where a slot doesn't stand nothing gives way
-absent : (slot : ℕ) (change : PlainNode → List PlainNode) (items : Forest) → times slot items ≡ 0 → edit_slot slot change items ≡ items
+pub absent : (slot : ℕ) (change : PlainNode → List PlainNode) (items : Forest) → times slot items ≡ 0 → edit_slot slot change items ≡ items
 absent slot change Forest.nil none = refl
 absent slot change (Forest.cons label inner rest) none =
     rw (zero_if (label.slot == slot) _ none)

@@ -1,5 +1,5 @@
 -- Lists changed by an item at the end of a path, level by level.
-use Rattle.std.specs.Prelude.{◌≡◌, refl, ℕ, zero, suc, ◌<◌, ◌≤◌, List, [], ◌∷◌, length, Option, Some, None, IfSome, IfNone, IsSome, is_some, Result, Ok, Err, IfOk, IfErr, option_and_then, slice_get, slice_set}
+use Rattle.std.specs.Prelude.{◌≡◌, refl, ℕ, zero, suc, ◌<◌, ◌≤◌, List, [], ◌∷◌, length, Option, Some, None, IfSome, IfNone, IsSome, is_some, Result, Ok, Err, IfOk, IfErr, OnOk, option_and_then, slice_get, slice_set}
 use Rattle.std.specs.List.{remove, insert}
 use Rattle.std.specs.Option.{option_map_or}
 use Rattle.std.proofs.Common.{ap, sym, ◌∙◌, subst, arith}
@@ -222,3 +222,18 @@ pub err_same : {A B : Type 0} (o : Result A B) (list : PlainNodes) (k : ℕ) (la
     → IfErr o (λ _. with_node_set list k record { label = record label { spare = after.spare }; inner = forest after.items } ≡ list)
 err_same (Ok a) list k label before after node e node_is same = tt
 err_same (Err b) list k label before after node e node_is same = list_same list k label before after node e node_is same
+
+-- where a list at the end of a path has room
+pub room_where : {A B : Type 0} (o : Result A B) (one other : ℕ) → one ≡ other → OnOk o (0 < other) → OnOk o (0 < one)
+room_where (Ok a) one other same h = omega (arith, same, h)
+room_where (Err b) one other same h = tt
+
+-- nothing but the room of the list of an item is changed
+pub room_alone : (items : List PlainNode) (k : ℕ) (node new : PlainNode) → slice_get items k ≡ Some node → roomless_node new ≡ roomless_node node
+    → roomless (forest (slice_set items k new)) ≡ roomless (forest items)
+room_alone [] k node new e same = absurd (none-some node e)
+room_alone (item ∷ items) zero node new e same =
+    let there : item ≡ node = ap (taken node) e in
+    ap (λ (n : PlainNode). Forest.cons n.label n.inner (roomless (forest items))) (same ∙ ap roomless_node (sym there))
+room_alone (item ∷ items) (suc k) node new e same =
+    ap (Forest.cons (record item.label { spare = 0 }) (roomless item.inner)) (room_alone items k node new e same)

@@ -10,7 +10,7 @@ use Rattle.template_tree.specs.declared.side.Side.{Side}
 use Rattle.template_tree.specs.declared.tree_fault.TreeFault.{TreeFault}
 use Rattle.template_tree.specs.declared.change.Change.{Change}
 use Rattle.template_tree.specs.declared.change.What.{What}
-use Rattle.template_tree.specs.Programs.PlainTree.{Forest, PlainNode, PlainTree, nodes, roomless, roomless_node, roomless_tree}
+use Rattle.template_tree.specs.Programs.PlainTree.{Forest, PlainNode, PlainTree, forest, nodes, roomless, roomless_node, roomless_tree}
 use Rattle.template_tree.specs.Programs.Program.{sorts, sort_of}
 use Rattle.template_tree.specs.Positions.Path.{added_path, last_child_number, node_at, with_last}
 use Rattle.template_tree.specs.Programs.Slots.{count, depth, times}
@@ -21,20 +21,24 @@ use Rattle.template_tree.specs.Edits.Hole.{hole_of, lone}
 use Rattle.template_tree.specs.Edits.TreeEdit.{TreeEdit}
 use Rattle.template_tree.specs.Edits.Receipt.{PlainUndoing, PlainReceipt, list_room, undone, with_beside}
 use Rattle.template_tree.specs.Edits.EditAnswer.{IsEdit, IsListItem, IsOverTreeLimit, IsSpareHole, IsWithin}
+use Rattle.template_tree.specs.Edits.Reversal.{IsUndoneIn, coming, comments}
 use Rattle.template_tree.specs.Edits.ListItem.{siblings_at}
 use Rattle.template_tree.specs.Private.Exchange.{MeetsLimit, first_item}
 use Rattle.template_tree.specs.Private.Restored.{side_of}
 use Rattle.template_tree.proofs.Edits.SameEdits.{taken}
 use Rattle.template_tree.proofs.Edits.SlotEdits.{present, slot_edit_is_path_edit}
 use Rattle.template_tree.proofs.Trees.Counts.{sorts_length}
-use Rattle.template_tree.proofs.Room.Rooms.{times_roomless}
+use Rattle.template_tree.proofs.Room.Rooms.{count_roomless, times_roomless}
 use Rattle.template_tree.proofs.Room.RoomlessEdits.{roomless_edit, roomless_edit_slot}
 use Rattle.template_tree.proofs.Room.RoomlessTrees.{tree_with_room, tree_without_room}
 use Rattle.template_tree.proofs.Edits.Procedures.{on_the_way, procedure_there}
 use Rattle.template_tree.proofs.Puts.PutTrees.{none_above}
 use Rattle.template_tree.proofs.Lists.FilledLists.{many_few}
 use Rattle.template_tree.proofs.Lists.ListChanges.{beside_same}
-use Rattle.template_tree.proofs.Lists.ListTrees.{add_by_path, add_keeps_tree, drop_by_path, drop_keeps_tree, grown, one_if, sibling_there}
+use Rattle.template_tree.proofs.Lists.ListTrees.{add_by_path, add_keeps_tree, drop_by_path, drop_keeps_tree, grown, one_if, shrunk, sibling_there}
+use Rattle.template_tree.proofs.Puts.Holes.{hole_no_comment}
+use Rattle.template_tree.proofs.Reversals.CommentCounts.{comments_beside, comments_few, comments_left, comments_roomless, lone_none}
+use Rattle.template_tree.proofs.Reversals.RevertibleEdits.{edit_can_revert, some_and, some_place, stands_undone}
 
 -- a hole that came before a node is where the node was
 there_before : (hole : PlainNode) (items : Forest) (path : List ℕ) (node : PlainNode) → node_at items path ≡ Some node
@@ -56,7 +60,7 @@ there_after hole (Forest.cons label inner rest) (zero ∷ (j ∷ (l ∷ path))) 
 there_after hole (Forest.cons label inner rest) (suc k ∷ []) node e = there_after hole rest (k ∷ []) node e
 there_after hole (Forest.cons label inner rest) (suc k ∷ (j ∷ path)) node e = there_after hole rest (k ∷ (j ∷ path)) node e
 
-hole_there : (side : Side) (hole : PlainNode) (items : Forest) (path : List ℕ) (node : PlainNode) → node_at items path ≡ Some node
+pub hole_there : (side : Side) (hole : PlainNode) (items : Forest) (path : List ℕ) (node : PlainNode) → node_at items path ≡ Some node
     → node_at (edit_at (with_beside side hole) path items) (added_path side path) ≡ Some hole
 hole_there Side.Before hole items path node e = there_before hole items path node e
 hole_there Side.After hole items path node e = there_after hole items path node e
@@ -84,7 +88,7 @@ again_after hole (Forest.cons label inner rest) (suc k ∷ []) node e = ap (Fore
 again_after hole (Forest.cons label inner rest) (suc k ∷ (j ∷ path)) node e =
     ap (Forest.cons label inner) (again_after hole rest (k ∷ (j ∷ path)) node e)
 
-taken_again : (side : Side) (hole : PlainNode) (items : Forest) (path : List ℕ) (node : PlainNode) → node_at items path ≡ Some node
+pub taken_again : (side : Side) (hole : PlainNode) (items : Forest) (path : List ℕ) (node : PlainNode) → node_at items path ≡ Some node
     → edit_at (λ _. []) (added_path side path) (edit_at (with_beside side hole) path items) ≡ items
 taken_again Side.Before hole items path node e = again_before hole items path node e
 taken_again Side.After hole items path node e = again_after hole items path node e
@@ -110,7 +114,7 @@ put_first hole (Forest.cons label inner (Forest.cons l i rest)) zero e two =
 put_first hole items (suc k) e two = behind hole items k e
 
 -- so a node that left is put back
-put_again : (hole : PlainNode) (items : Forest) (path : List ℕ) → node_at items path ≡ Some hole → 2 ≤ length (nodes (siblings_at items path))
+pub put_again : (hole : PlainNode) (items : Forest) (path : List ℕ) → node_at items path ≡ Some hole → 2 ≤ length (nodes (siblings_at items path))
     → edit_at (with_beside (side_of (last_child_number path)) hole) (with_last pred path) (edit_at (λ _. []) path items) ≡ items
 put_again hole items [] e two = absurd (none-some hole e)
 put_again hole items (k ∷ []) e two = put_first hole items k (sibling_there items (k ∷ []) hole e) two
@@ -128,7 +132,7 @@ same_choice : (o : Option PlainNode) (one other : PlainNode → ℕ) → ((node 
 same_choice None one other law = refl
 same_choice (Some node) one other law = law node
 
-room_beside : (other : ℕ → ℕ) (spare : ℕ) (items : Forest) (path : List ℕ) → list_room spare items (with_last other path) ≡ list_room spare items path
+pub room_beside : (other : ℕ → ℕ) (spare : ℕ) (items : Forest) (path : List ℕ) → list_room spare items (with_last other path) ≡ list_room spare items path
 room_beside other spare items [] = refl
 room_beside other spare items (k ∷ []) = refl
 room_beside other spare items (k ∷ (j ∷ [])) = refl
@@ -138,14 +142,14 @@ room_beside other spare items (k ∷ (j ∷ (l ∷ path))) =
     (λ node. room_beside other node.label.spare node.inner (j ∷ (l ∷ path)))
 
 -- the node at a path, without room
-there_roomless : (items : Forest) (path : List ℕ) → node_at (roomless items) path ≡ option_map roomless_node (node_at items path)
+pub there_roomless : (items : Forest) (path : List ℕ) → node_at (roomless items) path ≡ option_map roomless_node (node_at items path)
 there_roomless items [] = refl
 there_roomless Forest.nil (k ∷ path) = refl
 there_roomless (Forest.cons label inner rest) (zero ∷ []) = refl
 there_roomless (Forest.cons label inner rest) (zero ∷ (j ∷ path)) = there_roomless inner (j ∷ path)
 there_roomless (Forest.cons label inner rest) (suc k ∷ path) = there_roomless rest (k ∷ path)
 
-with_room : (o : Option PlainNode) (hole : PlainNode) → option_map roomless_node o ≡ Some hole
+pub with_room : (o : Option PlainNode) (hole : PlainNode) → option_map roomless_node o ≡ Some hole
     → (node : PlainNode) × (o ≡ Some node) × (roomless_node node ≡ hole)
 with_room None hole e = absurd (none-some hole e)
 with_room (Some node) hole e = (node, refl, ap (taken hole) e)
@@ -230,16 +234,50 @@ drop_edit tree path node after change t there spare others drawn_is live_is room
     ∙ ap roomless (put_again node tree.items path there two)) in
     let undoes : undone receipt None (roomless_tree after) ≡ roomless_tree tree =
     ap (λ (f : Forest). let s : PlainTree = record (roomless_tree tree) { items = f } in s) items in
+    let kept : IsTree after = tree_with_room after (subst IsTree (sym became) (tree_without_room (Drop tree node.label.slot) law.0)) in
+    let differs : Differs tree after change =
+    differ_so change node.label.slot What.Dropped tree after says.slot_is says.what_is
+    (omega (arith, t.once node.label.slot, present tree.items path node there), by_slot)
+    (procedure_there tree.items path node there (t.once node.label.slot) ∙ first_there tree.items path node change.procedure.0 there says.first)
+    in
+    let fewer = (shrunk tree.items path node there).count_is in
+    let stands : IsSome (node_at (roomless after.items) (with_last pred path)) =
+    some_place (with_beside side (roomless_node node)) (roomless after.items) (with_last pred path)
+    (node_at (roomless after.items) (with_last pred path)) refl
+    (λ none.
+    omega (
+      arith,
+      fewer,
+      count_roomless left,
+      ap count same,
+      ap count (sym none ∙ items),
+      count_roomless tree.items,
+    )) in
+    let apart : (slot : ℕ) → comments slot after.items + comments slot (coming receipt.undoing None) ≤ 1 =
+    λ slot.
+    omega (
+      arith,
+      comments_roomless slot after.items,
+      ap (comments slot) same,
+      comments_roomless slot left,
+      comments_left slot tree.items path node there,
+      comments_roomless slot (forest (node ∷ [])),
+      comments_few slot tree.items,
+      t.once slot,
+    )
+    in
     record {
       became = became;
-      tree = tree_with_room after (subst IsTree (sym became) (tree_without_room (Drop tree node.label.slot) law.0));
+      tree = kept;
       what = says.what_is;
       slot_is = says.slot_is;
-      differs =
-          differ_so change node.label.slot What.Dropped tree after says.slot_is says.what_is
-          (omega (arith, t.once node.label.slot, present tree.items path node there), by_slot)
-          (procedure_there tree.items path node there (t.once node.label.slot) ∙ first_there tree.items path node change.procedure.0 there says.first);
+      differs = differs;
       undoes = undoes;
+      can_revert =
+          edit_can_revert tree after receipt None t kept undoes differs says.what_is
+          (some_and (node_at (roomless after.items) (with_last pred path)) (IsUndoneIn change.slot.0 receipt.undoing None) stands
+          (λ _. sym says.slot_is)) apart (omega (arith, drawn_is));
+      drawn = omega (arith, drawn_is);
       can_undo =
           record {
             room = omega (arith, room, room_beside pred after.spare after.items path);
@@ -309,13 +347,33 @@ add_edit tree path node side kind after change t there listed hole_is few drawn_
     ap (procedure_of after.items) (sym slot)
     ∙ (procedure_there after.items (added_path side path) seen.0 seen.1 (own.once seen.0.label.slot)
     ∙ first_there after.items (added_path side path) seen.0 change.procedure.0 seen.1 says.first) in
+    let differs : Differs tree after change =
+    differ_so change d What.Added tree after says.slot_is says.what_is (stands, sym without) within in
+    let apart : (slot : ℕ) → comments slot after.items + comments slot (coming receipt.undoing None) ≤ 1 =
+    λ slot.
+    omega (
+      arith,
+      comments_roomless slot after.items,
+      ap (comments slot) same,
+      comments_roomless slot more,
+      comments_beside slot side hole tree.items path node there,
+      lone_none slot d kind (hole_no_comment (sort_of node.label.kind) kind hole_is),
+      comments_few slot tree.items,
+      t.once slot,
+    )
+    in
     record {
       became = became;
       tree = own;
       what = says.what_is;
       slot_is = says.slot_is;
-      differs = differ_so change d What.Added tree after says.slot_is says.what_is (stands, sym without) within;
+      differs = differs;
       undoes = undoes;
+      can_revert =
+          edit_can_revert tree after receipt None t own undoes differs says.what_is
+          (stands_undone after.items (added_path side path) seen.0 change.slot.0 d receipt.undoing None seen.1 says.slot_is slot) apart
+          (omega (arith, drawn_is));
+      drawn = omega (arith, drawn_is);
       can_undo = record { room = tt; before = subst IsTree (sym undoes) (tree_without_room tree t) };
     }
 

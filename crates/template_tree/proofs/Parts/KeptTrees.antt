@@ -160,7 +160,7 @@ first node [] = node
 first node (item ∷ items) = item
 
 -- the kind of comments
-comment_is : (kind : NodeKind) → is_comment kind ≡ true → kind ≡ NodeKind.Filled Template.Comment
+pub comment_is : (kind : NodeKind) → is_comment kind ≡ true → kind ≡ NodeKind.Filled Template.Comment
 comment_is (NodeKind.Filled Comment) e = refl
 comment_is other e = absurd (false≢true e)
 

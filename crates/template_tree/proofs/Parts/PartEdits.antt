@@ -1,6 +1,6 @@
 -- A part that was set is an edit of the tree, whose receipt undoes it.
-use Rattle.std.specs.Prelude.{◌≡◌, refl, ℕ, zero, suc, ◌<◌, ◌≤◌, List, [], ◌∷◌, Option, Some, None, IfSome, slice_get, slice_set}
-use Rattle.std.proofs.Common.{ap, sym, ◌∙◌, subst}
+use Rattle.std.specs.Prelude.{◌≡◌, refl, ℕ, zero, suc, ◌<◌, ◌≤◌, List, [], ◌∷◌, Option, ◌+◌, Some, None, IfSome, slice_get, slice_set}
+use Rattle.std.proofs.Common.{ap, sym, ◌∙◌, subst, arith}
 use Rattle.std.proofs.lemmas.Option.{none-some}
 use Rattle.plcs_base.specs.declared.place.Slot.{Slot}
 use Rattle.plcs_grammar.specs.declared.node_kind.NodeKind.{NodeKind}
@@ -15,10 +15,11 @@ use Rattle.template_tree.specs.Positions.Path.{node_at}
 use Rattle.template_tree.specs.Programs.Slots.{times}
 use Rattle.template_tree.specs.Programs.Tree.{IsTree}
 use Rattle.template_tree.specs.Edits.Lend.{with_node}
-use Rattle.template_tree.specs.Edits.Edit.{Part, DifferBy, edit_at, edit_slot, procedure_of}
+use Rattle.template_tree.specs.Edits.Edit.{Part, DifferBy, Differs, edit_at, edit_slot, procedure_of}
 use Rattle.template_tree.specs.Edits.TreeEdit.{TreeEdit}
 use Rattle.template_tree.specs.Edits.Receipt.{PlainUndoing, PlainReceipt, undone}
 use Rattle.template_tree.specs.Edits.EditAnswer.{IsEdit}
+use Rattle.template_tree.specs.Edits.Reversal.{coming, comments}
 use Rattle.template_tree.specs.Private.Exchange.{first_item}
 use Rattle.template_tree.proofs.Edits.SameEdits.{edits_alike}
 use Rattle.template_tree.proofs.Edits.SlotEdits.{slot_edit_is_path_edit}
@@ -26,8 +27,10 @@ use Rattle.template_tree.proofs.Parts.PartLists.{takes_there}
 use Rattle.template_tree.proofs.Parts.KeptTrees.{part_keeps_tree}
 use Rattle.template_tree.proofs.Room.RoomlessEdits.{roomless_edit}
 use Rattle.template_tree.proofs.Room.RoomlessTrees.{tree_without_room}
-use Rattle.template_tree.proofs.Edits.EditedNodes.{edit_twice, edit_same}
+use Rattle.template_tree.proofs.Edits.EditedNodes.{edit_twice, edit_same, node_there}
 use Rattle.template_tree.proofs.Edits.Procedures.{procedure_after}
+use Rattle.template_tree.proofs.Reversals.CommentCounts.{comments_few, comments_replaced}
+use Rattle.template_tree.proofs.Reversals.RevertibleEdits.{edit_can_revert, stands_undone}
 
 -- what is there
 abbrev taken : {A : Type 0} → A → Option A → A
@@ -38,7 +41,7 @@ some_is : {A : Type 0} (item there : A) → Some item ≡ Some there → item �
 some_is item there e = ap (taken item) e
 
 -- what was there before comes back
-set_back : {A : Type 0} (items : List A) (k : ℕ) (new old : A) → slice_get items k ≡ Some old → slice_set (slice_set items k new) k old ≡ items
+pub set_back : {A : Type 0} (items : List A) (k : ℕ) (new old : A) → slice_get items k ≡ Some old → slice_set (slice_set items k new) k old ≡ items
 set_back [] k new old e = absurd (none-some old e)
 set_back (item ∷ items) zero new old e = ap (λ i. i ∷ items) (sym (some_is item old e))
 set_back (item ∷ items) (suc k) new old e = ap (λ rest. item ∷ rest) (set_back items k new old e)
@@ -115,17 +118,36 @@ part_edit tree path node part place old after slot procedure receipt t there tak
     let undoes : undone own None (roomless_tree after) ≡ roomless_tree tree =
     ap (λ (f : Forest). let s : PlainTree = record (roomless_tree tree) { items = f } in s) items
     in
+    let differs : Differs tree after own.change =
+    record {
+      by = subst (λ s. DifferBy (What.Part part) s tree.items after.items) (sym slot_is) (place, ap (λ (s : PlainTree). roomless s.items) become);
+      within = subst (λ s. procedure_of after.items s ≡ Some procedure.0) (sym slot_is) within;
+    }
+    in
+    let kept_after : IsTree after = subst IsTree (sym become) kept in
+    let stands : node_at after.items path ≡ Some new = ap (λ f. node_at f path) by_path ∙ node_there node new tree.items path there in
+    let apart : (slot : ℕ) → comments slot after.items + comments slot (coming own.undoing None) ≤ 1 =
+    λ slot.
+    omega (
+      arith,
+      ap (comments slot) by_path,
+      comments_replaced slot tree.items path node new there,
+      comments_few slot tree.items,
+      t.once slot,
+    )
+    in
+    let drawn : tree.drawn ≤ after.drawn = omega (arith, ap (λ (s : PlainTree). s.drawn) is) in
     subst (λ r. IsEdit (TreeEdit.set_part part place) node.label.slot tree after r None) (sym receipt_is)
     record {
       became = ap roomless_tree become;
-      tree = subst IsTree (sym become) kept;
+      tree = kept_after;
       what = refl;
       slot_is = slot_is;
-      differs =
-          record {
-            by = subst (λ s. DifferBy (What.Part part) s tree.items after.items) (sym slot_is) (place, ap (λ (s : PlainTree). roomless s.items) become);
-            within = subst (λ s. procedure_of after.items s ≡ Some procedure.0) (sym slot_is) within;
-          };
+      differs = differs;
       undoes = undoes;
       can_undo = record { room = tt; before = subst IsTree (sym undoes) (tree_without_room tree t) };
+      can_revert =
+          edit_can_revert tree after own None t kept_after undoes differs refl
+          (stands_undone after.items path new slot.0 node.label.slot own.undoing None stands slot_is refl) apart drawn;
+      drawn = drawn;
     }

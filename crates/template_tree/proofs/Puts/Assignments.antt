@@ -12,12 +12,13 @@ use Rattle.template_tree.specs.Positions.Path.{node_at}
 use Rattle.template_tree.specs.Programs.Program.{IsPartPhrase, IsSubtree, sort_of}
 use Rattle.template_tree.specs.Programs.Tree.{IsTree}
 use Rattle.template_tree.specs.Edits.Edit.{Put}
+use Rattle.template_tree.specs.Edits.Elision.{is_comment}
 use Rattle.template_tree.specs.Edits.FreshNode.{assignment_node}
 use Rattle.template_tree.specs.Edits.EditAnswer.{IsWithin, TakesAssignment}
 use Rattle.template_tree.specs.Private.Exchange.{MayReplace}
 use Rattle.template_tree.proofs.Puts.PutLimits.{path_short, put_within}
 use Rattle.template_tree.proofs.Room.RoomlessEdits.{same_roomless}
-use Rattle.template_tree.proofs.Puts.Holes.{subtree_with_room}
+use Rattle.template_tree.proofs.Puts.Holes.{not_both_first, subtree_with_room}
 use Rattle.template_tree.proofs.Puts.Refusals.{within_like}
 
 -- an assignment is a part of a program
@@ -45,6 +46,9 @@ assignment_may_replace tree path there node phrase t at takes place same =
     record {
       subtree = subtree_with_room node (subst IsSubtree (sym same) (assignment_subtree phrase place takes.1));
       sort = ap (λ (n : PlainNode). sort_of n.label.kind) same ∙ sym (statement there.label.kind takes.0);
+      apart =
+          not_both_first (is_comment node.label.kind) (is_comment there.label.kind)
+          (ap (λ (n : PlainNode). is_comment n.label.kind) same);
       within =
           within_like tree there.label.slot (assignment_node phrase) node (sym (same_roomless node (assignment_node phrase) same))
           (assignment_within tree path there phrase t at);

@@ -1,5 +1,5 @@
 -- Holes have the sort of what may stand there, no parts, and nothing inside.
-use Rattle.std.specs.Prelude.{◌≡◌, refl, ℕ, Bool, true, false, if◌then◌else◌, List, [], ◌∷◌, Option, Some, None, is_some, unwrap_or}
+use Rattle.std.specs.Prelude.{◌≡◌, refl, ℕ, ◌&&◌, Bool, true, false, if◌then◌else◌, List, [], ◌∷◌, Option, Some, None, is_some, unwrap_or}
 use Rattle.std.proofs.Common.{ap, sym, ◌∙◌, subst, arith}
 use Rattle.std.proofs.Math.Bool.{false≢true}
 use Rattle.std.proofs.lemmas.Option.{none-some}
@@ -12,6 +12,7 @@ use Rattle.template_tree.specs.Positions.Path.{node_at}
 use Rattle.template_tree.specs.Programs.Program.{Fill, IsSubtree, sorts, sort_of}
 use Rattle.template_tree.specs.Programs.Slots.{count, depth}
 use Rattle.template_tree.specs.Programs.Tree.{IsTree}
+use Rattle.template_tree.specs.Edits.Elision.{is_comment}
 use Rattle.template_tree.specs.Edits.Hole.{hole_left, hole_of, is_hole, lone}
 use Rattle.template_tree.specs.Edits.TreeEdit.{TreeEdit}
 use Rattle.template_tree.specs.Edits.Receipt.{PlainReceipt}
@@ -52,6 +53,18 @@ no_nodes : (items : Forest) → sorts items ≡ [] → count items ≡ 0
 no_nodes Forest.nil e = refl
 no_nodes (Forest.cons label inner rest) e = absurd (subst IsMore e tt)
 
+-- a hole is no comment
+pub hole_no_comment : (sort : Sort) (kind : NodeKind) → hole_of sort ≡ Some kind → is_comment kind ≡ false
+hole_no_comment sort kind e = each_hole (λ s k. is_comment k ≡ false) refl refl refl sort kind e
+
+-- nothing is both where the one isn't
+pub not_both_first : (one other : Bool) → one ≡ false → (one && other) ≡ false
+not_both_first one other e = ap (λ b. b && other) e
+
+pub not_both_second : (one other : Bool) → other ≡ false → (one && other) ≡ false
+not_both_second true other e = e
+not_both_second false other e = refl
+
 -- nothing stands inside a hole
 pub hole_empty : (sort : Sort) (node : PlainNode) → IsSubtree node → hole_of sort ≡ Some node.label.kind → count node.inner ≡ 0
 hole_empty sort node sound e =
@@ -91,6 +104,9 @@ hole_may_replace tree path there bare hole t at left is =
     record {
       subtree = subtree_with_room bare (subst IsSubtree (sym (bare_is bare 0 hole is)) (hole_subtree 0 (sort_of there.label.kind) hole own));
       sort = ap (λ (n : PlainNode). sort_of n.label.kind) is ∙ hole_sort (sort_of there.label.kind) hole own;
+      apart =
+          not_both_first (is_comment bare.label.kind) (is_comment there.label.kind)
+          (ap (λ (n : PlainNode). is_comment n.label.kind) is ∙ hole_no_comment (sort_of there.label.kind) hole own);
       within =
           put_within tree path there bare t at
           (omega (arith, flat, path_short tree.items path there at, t.shallow))

@@ -4,23 +4,26 @@ use Rattle.std.proofs.Common.{ap, sym, ◌∙◌, subst, arith}
 use Rattle.plcs_base.specs.declared.place.Slot.{Slot}
 use Rattle.template_tree.specs.declared.change.Change.{Change}
 use Rattle.template_tree.specs.declared.change.What.{What}
-use Rattle.template_tree.specs.Programs.PlainTree.{Forest, PlainNode, PlainTree, roomless, roomless_node, roomless_tree}
+use Rattle.template_tree.specs.Programs.PlainTree.{Forest, PlainNode, PlainTree, forest, roomless, roomless_node, roomless_tree}
 use Rattle.template_tree.specs.Positions.Path.{node_at}
 use Rattle.template_tree.specs.Programs.Slots.{count, times}
 use Rattle.template_tree.specs.Programs.Tree.{IsTree}
 use Rattle.template_tree.specs.Edits.Lend.{with_node}
-use Rattle.template_tree.specs.Edits.Edit.{Put, Differs, DifferBy, changed_in, edit_at, node_in_slot, procedure_of}
+use Rattle.template_tree.specs.Edits.Edit.{Put, Differs, DifferBy, changed_in, edit_at, node_in_slot, procedure_of, whole}
 use Rattle.template_tree.specs.Edits.TreeEdit.{TreeEdit}
 use Rattle.template_tree.specs.Edits.Receipt.{PlainUndoing, PlainReceipt, HasRoomBack, items_before, undone}
 use Rattle.template_tree.specs.Edits.EditAnswer.{Edits, IsEdit, slot_in}
+use Rattle.template_tree.specs.Edits.Reversal.{IsUndoneIn, coming, comments, what_undone}
 use Rattle.template_tree.specs.Private.Exchange.{MayReplace, IsChangeOf, first_item}
 use Rattle.template_tree.proofs.Edits.SlotEdits.{slot_edit_is_path_edit}
 use Rattle.template_tree.proofs.Puts.PutTrees.{put_keeps_tree}
 use Rattle.template_tree.proofs.Trees.DrawnSlots.{count_numbered}
 use Rattle.template_tree.proofs.Room.RoomlessEdits.{count_whole, roomless_edit, roomless_put}
 use Rattle.template_tree.proofs.Room.RoomlessTrees.{tree_without_room}
-use Rattle.template_tree.proofs.Edits.EditedNodes.{count_after, edit_back}
+use Rattle.template_tree.proofs.Edits.EditedNodes.{count_after, edit_back, node_there}
 use Rattle.template_tree.proofs.Edits.Procedures.{procedure_after}
+use Rattle.template_tree.proofs.Reversals.CommentCounts.{come_few, comments_replaced, comments_roomless}
+use Rattle.template_tree.proofs.Reversals.RevertibleEdits.{edit_can_revert, stands_undone}
 
 -- what is asked of the node that is there holds of it
 pub of_there : (there : Option PlainNode) (Holds : PlainNode → Type 0) (node : PlainNode) → there ≡ Some node → IsSomeAnd there Holds → Holds node
@@ -110,10 +113,12 @@ put_differs tree old new after change is changed =
 pub put_edit : (tree : PlainTree) (path : List ℕ) (old new : PlainNode) (after : PlainTree) (change : Change) (undoing : PlainUndoing) (back : Option PlainNode)
     → IsTree tree → node_at tree.items path ≡ Some old → MayReplace tree new old → after ≡ Put tree old.label.slot new
     → IsChangeOf after old.label.slot What.Node change
-    → items_before undoing back ≡ (λ _. roomless_node old ∷ []) → ((room : ℕ) → HasRoomBack undoing room)
+    → items_before undoing back ≡ (λ _. roomless_node old ∷ []) → what_undone undoing ≡ What.Node
+    → IsUndoneIn old.label.slot undoing back (roomless_node (come tree old new)) → coming undoing back ≡ forest (roomless_node old ∷ [])
+    → ((room : ℕ) → HasRoomBack undoing room)
     → IsEdit (TreeEdit.put new) old.label.slot tree after
     record { change = change; path = path; undoing = undoing; drawn = tree.drawn; live = tree.live } back
-put_edit tree path old new after change undoing back t there may is changed gives room =
+put_edit tree path old new after change undoing back t there may is changed gives what at out room =
     let receipt : PlainReceipt = record { change = change; path = path; undoing = undoing; drawn = tree.drawn; live = tree.live } in
     let by_path : after.items ≡ edit_at (λ _. come tree old new ∷ []) path tree.items =
     ap (λ (s : PlainTree). s.items) is ∙ put_by_path tree path old new t there in
@@ -125,26 +130,47 @@ put_edit tree path old new after change undoing back t there may is changed give
     let undoes : undone receipt back (roomless_tree after) ≡ roomless_tree tree =
     ap (λ (f : Forest). let s : PlainTree = record (roomless_tree tree) { items = f } in s) items
     in
+    let kept : IsTree after = subst IsTree (sym is) (put_tree tree path old new t there may) in
+    let differs : Differs tree after change = put_differs tree old new after change is changed in
+    let came : PlainNode = come tree old new in
+    let stands : node_at after.items path ≡ Some came = ap (λ f. node_at f path) by_path ∙ node_there old came tree.items path there in
+    let apart : (slot : ℕ) → comments slot after.items + comments slot (coming undoing back) ≤ 1 =
+    λ slot.
+    omega (
+      arith,
+      ap (comments slot) by_path,
+      comments_replaced slot tree.items path old came there,
+      come_few slot tree.drawn tree.items path old came (whole new.inner) there refl refl may.apart t.drawn (t.once slot),
+      ap (comments slot) out,
+      comments_roomless slot (forest (old ∷ [])),
+    )
+    in
+    let drawn : tree.drawn ≤ after.drawn = omega (arith, ap (λ (s : PlainTree). s.drawn) is) in
     record {
       became = ap roomless_tree is;
-      tree = subst IsTree (sym is) (put_tree tree path old new t there may);
+      tree = kept;
       what = changed.what_is;
       slot_is = changed.slot_is;
-      differs = put_differs tree old new after change is changed;
+      differs = differs;
       undoes = undoes;
       can_undo = record { room = room _; before = subst IsTree (sym undoes) (tree_without_room tree t) };
+      can_revert =
+          edit_can_revert tree after receipt back t kept undoes differs (changed.what_is ∙ sym what)
+          (stands_undone after.items path came change.slot.0 old.label.slot undoing back stands changed.slot_is at) apart drawn;
+      drawn = drawn;
     }
 
 -- the same of a receipt as it is seen
 pub put_receipt : (tree : PlainTree) (path : List ℕ) (old new : PlainNode) (after : PlainTree) (change : Change) (undoing : PlainUndoing) (back : Option PlainNode)
     (receipt : PlainReceipt) → IsTree tree → node_at tree.items path ≡ Some old → MayReplace tree new old → after ≡ Put tree old.label.slot new
     → IsChangeOf after old.label.slot What.Node change
-    → items_before undoing back ≡ (λ _. roomless_node old ∷ []) → ((room : ℕ) → HasRoomBack undoing room)
-    → receipt ≡ record { change = change; path = path; undoing = undoing; drawn = tree.drawn; live = tree.live }
+    → items_before undoing back ≡ (λ _. roomless_node old ∷ []) → what_undone undoing ≡ What.Node
+    → IsUndoneIn old.label.slot undoing back (roomless_node (come tree old new)) → coming undoing back ≡ forest (roomless_node old ∷ [])
+    → ((room : ℕ) → HasRoomBack undoing room) → receipt ≡ record { change = change; path = path; undoing = undoing; drawn = tree.drawn; live = tree.live }
     → IsEdit (TreeEdit.put new) old.label.slot tree after receipt back
-put_receipt tree path old new after change undoing back receipt t there may is changed gives room receipt_is =
+put_receipt tree path old new after change undoing back receipt t there may is changed gives what at out room receipt_is =
     subst (λ r. IsEdit (TreeEdit.put new) old.label.slot tree after r back) (sym receipt_is)
-    (put_edit tree path old new after change undoing back t there may is changed gives room)
+    (put_edit tree path old new after change undoing back t there may is changed gives what at out room)
 
 -- what holds of the node that is there
 pub at_there : (there : Option PlainNode) (Holds : PlainNode → Type 0) (node : PlainNode) → there ≡ Some node → Holds node → IsSomeAnd there Holds
@@ -163,6 +189,8 @@ edit_like one other slot before after receipt back same e =
       differs = e.differs;
       undoes = e.undoes;
       can_undo = e.can_undo;
+      can_revert = e.can_revert;
+      drawn = e.drawn;
     }
 
 -- an edit at the node that is there

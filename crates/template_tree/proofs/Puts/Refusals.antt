@@ -11,12 +11,13 @@ use Rattle.template_tree.specs.Programs.Program.{IsSubtree, sort_of}
 use Rattle.template_tree.specs.Programs.Slots.{count, depth}
 use Rattle.template_tree.specs.Programs.Tree.{IsTree}
 use Rattle.template_tree.specs.Edits.Edit.{Put}
+use Rattle.template_tree.specs.Edits.Elision.{is_comment}
 use Rattle.template_tree.specs.Private.Exchange.{MayReplace, MeetsLimit}
 use Rattle.template_tree.specs.Edits.TreeEdit.{TreeEdit, tree_after}
 use Rattle.template_tree.specs.Edits.EditAnswer.{IsHoleFor, IsOverTreeLimit, IsWithin, Refuses}
 use Rattle.template_tree.proofs.Puts.PutEdits.{at_there}
 use Rattle.template_tree.proofs.Puts.PutLimits.{put_over, put_under}
-use Rattle.template_tree.proofs.Puts.Holes.{hole_empty, hole_sort}
+use Rattle.template_tree.proofs.Puts.Holes.{hole_empty, hole_no_comment, hole_sort, not_both_second}
 use Rattle.template_tree.proofs.Room.Rooms.{depth_roomless}
 use Rattle.template_tree.proofs.Room.RoomlessEdits.{roomless_put}
 use Rattle.template_tree.proofs.Trees.Subtrees.{subtree_at}
@@ -68,7 +69,14 @@ pub may_come : (tree : PlainTree) (path : List ℕ) (there node : PlainNode) →
     → IsSomeAnd (node_at tree.items path) (MayReplace tree node)
 may_come tree path there node at here sound within =
     at_there (node_at tree.items path) (MayReplace tree node) there at
-    record { subtree = sound; sort = sym (hole_sort (sort_of node.label.kind) there.label.kind here); within = within }
+    record {
+      subtree = sound;
+      sort = sym (hole_sort (sort_of node.label.kind) there.label.kind here);
+      apart =
+          not_both_second (is_comment node.label.kind) (is_comment there.label.kind)
+          (hole_no_comment (sort_of node.label.kind) there.label.kind here);
+      within = within;
+    }
 
 -- what a test of depth says
 pub shallow_where : (shallow : Bool) (path deep : ℕ) → (IsTrue shallow ↔ (deep ≤ deepest_path - path)) → path ≤ deepest_path

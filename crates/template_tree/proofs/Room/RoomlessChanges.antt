@@ -112,7 +112,7 @@ procedure_if true item one other same = refl
 procedure_if false item one other same = same
 
 -- a slot stands in the same procedure
-procedure_roomless : (items : Forest) (slot : ℕ) → procedure_of (roomless items) slot ≡ procedure_of items slot
+pub procedure_roomless : (items : Forest) (slot : ℕ) → procedure_of (roomless items) slot ≡ procedure_of items slot
 procedure_roomless Forest.nil slot = refl
 procedure_roomless (Forest.cons label inner rest) slot =
     let holds : PlainNode → Bool = λ item. nat_lt 0 (times slot (forest (item ∷ []))) in

@@ -17,9 +17,11 @@ use Rattle.template_tree.specs.Edits.Edit.{Differs}
 use Rattle.template_tree.specs.Edits.Hole.{hole_of, hole_left, is_hole, lone}
 use Rattle.template_tree.specs.Edits.TreeEdit.{TreeEdit, tree_after, what_of, changed_slot}
 use Rattle.template_tree.specs.Edits.Receipt.{PlainReceipt, undone, CanUndo}
+use Rattle.template_tree.specs.Edits.Reversal.{CanRevert}
 
--- an edit at the node in the slot that was made is answered so: it made one tree of the other, and the receipt names it
--- and undoes it, with the node that the edit gave out, if it gave one
+-- an edit at the node in the slot that was made is answered so: it made one tree of the other, and the receipt names
+-- it, undoes it, and reverts it, with the node that the edit gave out, if it gave one. No fewer slots are drawn than
+-- before
 pub record IsEdit (edit : TreeEdit) (slot : ℕ) (before after : PlainTree) (receipt : PlainReceipt)
     (back : Option PlainNode) : Type 0 where
   pub became : roomless_tree after ≡ roomless_tree (tree_after edit before slot)
@@ -29,6 +31,8 @@ pub record IsEdit (edit : TreeEdit) (slot : ℕ) (before after : PlainTree) (rec
   pub differs : Differs before after receipt.change
   pub undoes : undone receipt back (roomless_tree after) ≡ roomless_tree before
   pub can_undo : CanUndo receipt back after
+  pub can_revert : CanRevert receipt back (roomless_tree after)
+  pub drawn : before.drawn ≤ after.drawn
 
 -- the slot of the node at which an edit may be made, if there is one, or else 0
 abbrev pub slot_in : Option PlainNode → ℕ

@@ -1,4 +1,4 @@
--- The laws of trees: a tree stays one under edits within the limits, and these can be undone.
+-- The laws of trees: a tree stays one under edits within the limits, and these can be undone and reverted.
 use Rattle.std.specs.Prelude.{◌≡◌, ℕ, ◌+◌, ◌≤◌, List, Option, Some}
 use Rattle.plcs_grammar.specs.PlainPhrase.{PlainPhrase}
 use Rattle.template_tree.specs.declared.side.Side.{Side}
@@ -11,8 +11,10 @@ use Rattle.template_tree.specs.Programs.Slots.{count, depth, times}
 use Rattle.template_tree.specs.Programs.Tree.{IsTree}
 use Rattle.template_tree.specs.Edits.Lend.{with_node}
 use Rattle.template_tree.specs.Positions.Path.{node_at}
-use Rattle.template_tree.specs.Edits.Receipt.{PlainReceipt, CanUndo, HasRoomBack, list_room}
-use Rattle.template_tree.specs.Edits.Edit.{Add, Drop, Part, Put, edit_at, edit_slot}
+use Rattle.template_tree.specs.Edits.Receipt.{PlainReceipt, CanUndo, HasRoomBack, list_room, undone}
+use Rattle.template_tree.specs.Edits.Reversal.{Before, CanRevert, with_elision_of}
+use Rattle.template_tree.specs.Edits.Edit.{Add, Drop, Part, Put, edit_at, edit_slot, whole}
+use Rattle.template_tree.specs.Edits.Elision.{with_toggled_at}
 
 -- an edit by slot is the edit at the path of the node that stands there, where the slot stands but once
 abbrev pub SlotEditIsPathEdit : Type 0
@@ -77,3 +79,31 @@ UndoStaysPossible =
     → roomless_tree one ≡ roomless_tree other
     → HasRoomBack receipt.undoing (list_room other.spare other.items receipt.path)
     → CanUndo receipt back one → CanUndo receipt back other
+
+-- the tree before an edit whose receipt fits a tree is the one to which that is undone, with as many slots drawn as
+-- are now: outside of what comes back it is the tree itself, elision and all
+abbrev pub RevertsToUndone : Type 0
+RevertsToUndone =
+    (receipt : PlainReceipt) (back : Option PlainNode) (tree : PlainTree) → IsTree tree → CanRevert receipt back tree
+    → Before tree receipt back ≡ record (undone receipt back tree) { drawn = tree.drawn }
+
+-- of trees that are the same but for elision: a receipt that fits the one fits the other, and both have the same tree
+-- before the edit but for elision, where those comments are shown that stand now too
+pub record RevertAlike (receipt : PlainReceipt) (back : Option PlainNode) (one other : PlainTree) : Type 0 where
+  pub fits : CanRevert receipt back other
+  pub before : whole (Before one receipt back).items ≡ whole (Before other receipt back).items
+  pub shown :
+      with_elision_of (whole one.items) (undone receipt back one).items
+      ≡ with_elision_of (whole other.items) (undone receipt back other).items
+
+-- whether a receipt fits a tree, and what it gives back, doesn't depend on what is elided in the tree
+abbrev pub RevertsIgnoreElision : Type 0
+RevertsIgnoreElision =
+    (receipt : PlainReceipt) (back : Option PlainNode) (one other : PlainTree) → IsTree one → IsTree other
+    → whole one.items ≡ whole other.items → one.drawn ≡ other.drawn → CanRevert receipt back one
+    → RevertAlike receipt back one other
+
+-- a tree with a comment turned is the same but for elision
+abbrev pub TurnsAreElision : Type 0
+TurnsAreElision = (tree : PlainTree) (path : List ℕ) → IsTree tree
+    → IsTree (with_toggled_at path tree) × (whole (with_toggled_at path tree).items ≡ whole tree.items)

@@ -7,7 +7,6 @@ use Rattle.session_edit.specs.PlainEdit.{plain_edit}
 use Rattle.screen_window.specs.HeldLines.{HoldLinesOf}
 use Rattle.synth_session.specs.SessionView.{DependOn}
 use Rattle.synth_session.proofs.AgreeingDependents.{dependents_stay}
-use Rattle.synth_session.proofs.KeptRuns.{came_roomless}
 use Rattle.synth_session.proofs.program.Program.change.Goals as goal
 
 pub returns-in-Err-clause-agrees : goal.returns-in-Err-clause-agrees
@@ -46,10 +45,7 @@ returns-in-Ok-clause-agrees g c =
           (c.forget.ensures (offences now.dependents.marks) (roomless now.tree.items));
     }
 
-pub returns-in-Ok-clause-came : goal.returns-in-Ok-clause-came
-returns-in-Ok-clause-came g c =
-    let step = c.edits_at_stops_are_steps.ensures.made c.args.self.now.tree c.apply.new.tree (plain_stop c.args.at.now) (plain_edit c.args.edit) _
-    c.requires.agrees.tree c.in_ok-applied.ensures in
-    rw c.in-Ok.ensures.tree (came_roomless c.room_is_not_shown.ensures.once c.room_is_not_shown.ensures.trees c.edits_follow.ensures.room
-    c.edits_follow.ensures.follow c.args.self.now.tree c.apply.new.tree c.in_ok-applied.ensures.tree
-    (c.edits_follow.ensures.one c.args.self.now.tree c.apply.new.tree step))
+pub returns-in-Ok-clause-step : goal.returns-in-Ok-clause-step
+returns-in-Ok-clause-step g c =
+    rw c.in-Ok.ensures.tree (c.edits_at_stops_are_steps.ensures.made c.args.self.now.tree c.apply.new.tree (plain_stop c.args.at.now)
+    (plain_edit c.args.edit) _ c.requires.agrees.tree c.in_ok-applied.ensures)

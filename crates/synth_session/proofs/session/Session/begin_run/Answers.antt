@@ -29,7 +29,7 @@ accept_running-requires-clause-run g c =
     begun_held c.code_begins_as_tree.ensures c.programs_have_one_code.ensures.items c.room_is_not_shown.ensures.trees
     c.args.self.now.program.tree c.requires.ready.session.agrees.tree c.args.self.now.program.dependents.code c.requires.ready.code
     c.in_ok-state.state c.begin.new.self.undos c.begin.new.self.run c.begin.ensures.run c.begin.ensures.undos c.in_ok-state.ensures.began
-    c.new_runs_fit.ensures
+    c.new_runs_fit.ensures (plain_session c.args.self.now).earlier
 
 pub returns-clause-does : goal.returns-clause-does
 returns-clause-does g c =

@@ -1,6 +1,6 @@
 use Rattle.std.proofs.Common.{ap, ◌∙◌}
 use Rattle.synth_session.specs.declared.program.Program.{Program}
-use Rattle.synth_session.proofs.DrawnSessions.{drawn_code, drawn_run, drawn_same, drawn_session}
+use Rattle.synth_session.proofs.DrawnSessions.{drawn_code, drawn_edits, drawn_run, drawn_same, drawn_session}
 use Rattle.synth_session.proofs.session.Session.draw.Goals as goal
 
 -- the session is seen the same, with other lines that are held
@@ -30,5 +30,9 @@ returns-clause-ready g c =
       run =
           drawn_run c.args.self.now (record c.shown_code-shown.new.self { screens = c.draw_on.new.screens; program = c.draw_on.new.program })
           (c.draw_on.ensures.tree ∙ ap (λ (p : Program _). p.tree) c.shown_code-shown.ensures.program)
-          c.shown_code-shown.ensures.run ready.run;
+          c.shown_code-shown.ensures.run c.shown_code-shown.ensures.edits ready.run;
+      edits =
+          drawn_edits c.args.self.now (record c.shown_code-shown.new.self { screens = c.draw_on.new.screens; program = c.draw_on.new.program })
+          (c.draw_on.ensures.tree ∙ ap (λ (p : Program _). p.tree) c.shown_code-shown.ensures.program)
+          c.shown_code-shown.ensures.edits ready.edits;
     }

@@ -1,23 +1,65 @@
-use Rattle.std.proofs.Common.{subst, ◌∙◌}
-use Rattle.template_tree.specs.Programs.PlainTree.{roomless_tree}
+use Rattle.std.proofs.Common.{ap, sym, subst, ◌∙◌}
+use Rattle.template_tree.specs.Positions.Stop.{plain_stop}
+use Rattle.template_tree.specs.Programs.PlainTree.{PlainTree, roomless_tree}
+use Rattle.edit_undo.specs.EarlierTree.{trees_before}
 use Rattle.session_edit.specs.Edited.{edited}
 use Rattle.session_edit.specs.PlainEdit.{plain_edit}
 use Rattle.synth_session.specs.EditCommands.{edited_by}
 use Rattle.synth_session.specs.PlainSession.{PlainSession}
+use Rattle.synth_session.specs.Private.EditedProgram.{noted_trees, program_before}
 use Rattle.synth_session.specs.Private.Faults.{CountsEdit, IsEditFault}
 use Rattle.synth_session.specs.SessionView.{plain_session}
+use Rattle.synth_session.proofs.AcceptedEdits.{acceptance_does, edited_is, session_accepted}
 use Rattle.synth_session.proofs.EditOutcomes.{edited_counted, edited_refused, refusal_does, seen_without_room}
-use Rattle.synth_session.proofs.KeptRuns.{kept_stood}
+use Rattle.synth_session.proofs.KeptRuns.{MayGoOnIfStands, kept_stood}
+use Rattle.synth_session.proofs.NotedEdits.{came_from, stood_noted}
 use Rattle.synth_session.proofs.session.Session.edit.Goals as goal
+
+pub accept_edit-requires-clause-came : goal.accept_edit-requires-clause-came
+accept_edit-requires-clause-came g c =
+    let kept = c.keep_for_run.new.self in
+    let ready = c.keep_for_run.ensures.ready in
+    came_from c.agreement_lasts.ensures.back c.agreement_lasts.ensures.steps c.room_is_not_shown.ensures.once c.room_is_not_shown.ensures.trees
+    c.edits_follow.ensures.room kept.program.tree c.change.new.self.tree kept.edits (plain_stop kept.stop) c.in-Ok.applied
+    ready.session.agrees.tree ready.session.placed.stop c.in-Ok.ensures.undoes c.in-Ok.ensures.can_revert c.in-Ok.ensures.drawn
+    c.in-Ok.ensures.step ready.edits
 
 pub accept_edit-requires-clause-run : goal.accept_edit-requires-clause-run
 accept_edit-requires-clause-run g c =
-    let run = c.keep_for_run.new.self.run in (
+    let kept = c.keep_for_run.new.self in
+    let run = kept.run in
+    let after = roomless_tree c.change.new.self.tree in
+    let before = program_before c.in-Ok.applied after in
+    let may = subst (λ (t : PlainTree). MayGoOnIfStands t (trees_before kept.edits t) run.undos run.run) (sym c.in-Ok.ensures.undoes)
+    c.keep_for_run.ensures.ready.run in (
       c.in_ok-keep_for_run.ensures.kept,
-      kept_stood c.edits_follow.ensures.follow (roomless_tree c.keep_for_run.new.self.program.tree) (roomless_tree c.change.new.self.tree)
-          ((c.room_is_not_shown.ensures.trees c.change.new.self.tree).0 c.change.ensures.agrees.tree) c.in-Ok.ensures.came run.undos run.run
-          c.in_ok-keep_for_run.ensures.kept c.keep_for_run.ensures.ready.run,
+      kept_stood before after (trees_before kept.edits before) (noted_trees before kept.edits (plain_stop kept.stop) after c.in-Ok.applied)
+          (stood_noted c.agreement_lasts.ensures.back c.undone_trees_check_alike.ensures after kept.edits (plain_stop kept.stop) c.in-Ok.applied
+          (accept_edit-requires-clause-came g c)) run.undos run.run c.in_ok-keep_for_run.ensures.kept may,
     )
+
+-- the edit is made
+pub returns-in-Ok : goal.returns-in-Ok
+returns-in-Ok g c =
+    let s = plain_session c.args.self.now in
+    let edit = plain_edit c.args.edit in
+    let kept = c.keep_for_run.new.self in
+    let program = c.change.new.self in
+    let applied = c.in-Ok.applied in
+    let same = c.keep_for_run.ensures.plain in
+    let law = c.room_is_not_shown.ensures.counts in
+    let undoes = c.in-Ok.ensures.undoes in
+    let some = c.in_ok-keep_for_run.ensures.kept in
+    let counts : CountsEdit (edited s.tree s.stop edit) (g.W.Work.counts c.args.work.now) (g.W.Work.counts c.change.new.work) =
+    subst (λ (t : PlainSession). CountsEdit (edited t.tree t.stop edit) (g.W.Work.counts c.args.work.now) (g.W.Work.counts c.change.new.work))
+    same c.change.ensures.counts in
+    record {
+      does = acceptance_does c.args.self.now (record kept { program = program }) c.accept_edit.new.self c.accept_edit.result (edited_by s edit)
+          (session_accepted law kept program applied undoes some)
+          (edited_is law kept program applied undoes some edit applied.receipt.change.what applied.receipt.change.slot.0 c.in-Ok.ensures.became
+          ∙ ap (λ (t : PlainSession). edited_by t edit) same) c.keep_for_run.ensures.screens c.accept_edit.ensures;
+      counts = edited_counted s edit counts;
+    }
 
 -- the edit is refused
 pub returns-in_default : goal.returns-in_default

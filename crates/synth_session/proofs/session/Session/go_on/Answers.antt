@@ -16,7 +16,7 @@ may_go_on-requires g c =
     record {
       tree = c.requires.ready.session.agrees.tree;
       decls = c.requires.ready.session.agrees.dependents.decls;
-      asked = held_asked c.args.self.now.program.tree c.args.self.now.run.undos c.runs_ignore_room_and_elision.ensures.room c.kept_has_entries.ensures
+      asked = held_asked c.args.self.now.program.tree (plain_session c.args.self.now).earlier c.args.self.now.run.undos c.runs_ignore_room_and_elision.ensures.room c.kept_has_entries.ensures
           c.args.self.now.run.run c.requires.ready.run;
     }
 
@@ -24,15 +24,15 @@ pub go_on-requires : goal.go_on-requires
 go_on-requires g c =
     record {
       tree = c.requires.ready.session.agrees.tree;
-      stays = held_stays c.args.self.now.program.tree c.args.self.now.run.undos c.runs_ignore_room_and_elision.ensures.room
+      stays = held_stays c.args.self.now.program.tree (plain_session c.args.self.now).earlier c.args.self.now.run.undos c.runs_ignore_room_and_elision.ensures.room
           c.fitting_runs_are_resolved.ensures c.args.self.now.run.run c.requires.ready.run;
     }
 
 pub accept_running-requires : goal.accept_running-requires
 accept_running-requires g c =
     let tree = c.args.self.now.program.tree in
-    let run = held_goes_on tree c.args.self.now.run.undos c.unedited_may_resume.ensures c.fitting_runs_are_kept.ensures
-    c.answers_ignore_room_and_elision.ensures.room c.runs_ignore_room_and_elision.ensures.room c.resumed_runs_fit.ensures.edited
+    let run = held_goes_on tree (plain_session c.args.self.now).earlier c.args.self.now.run.undos c.unedited_may_resume.ensures c.fitting_runs_are_kept.ensures
+    c.answers_ignore_room_and_elision.ensures.room c.runs_ignore_room_and_elision.ensures.room c.resumed_runs_fit.ensures.agreed
     c.fitting_runs_are_resolved.ensures ((c.room_is_not_shown.ensures.trees tree).0 c.requires.ready.session.agrees.tree)
     c.go_on.new.self.undos c.go_on.ensures.undos c.args.self.now.run.run c.go_on.new.self.run c.go_on.ensures.run c.requires.ready.run c.in-Ok.ensures.asked in
     record {
@@ -40,6 +40,7 @@ accept_running-requires g c =
       placed = record { stop = c.requires.ready.session.placed.stop; top = c.requires.ready.session.placed.top };
       code = c.requires.ready.code;
       run = run;
+      edits = c.requires.ready.edits;
       stands = held_stands tree c.args.self.now.run.undos c.go_on.new.self.undos c.args.self.now.run.run c.go_on.new.self.run c.args.reason
           c.go_on.ensures.run c.requires.stands;
     }
@@ -48,15 +49,15 @@ pub returns-in-Ok : goal.returns-in-Ok
 returns-in-Ok g c run there =
     let tree = c.args.self.now.program.tree in
     let goes = held_reason run c.args.reason there c.requires.stands c.in_default.not-Ended in
-    let plain = held_plain tree c.args.self.now.run.undos c.unedited_may_resume.ensures c.fitting_runs_are_kept.ensures
-    c.answers_ignore_room_and_elision.ensures.room c.runs_ignore_room_and_elision.ensures.room c.resumed_runs_fit.ensures.edited
+    let plain = held_plain tree (plain_session c.args.self.now).earlier c.args.self.now.run.undos c.unedited_may_resume.ensures c.fitting_runs_are_kept.ensures
+    c.answers_ignore_room_and_elision.ensures.room c.runs_ignore_room_and_elision.ensures.room c.resumed_runs_fit.ensures.agreed
     c.fitting_runs_are_resolved.ensures ((c.room_is_not_shown.ensures.trees tree).0 c.requires.ready.session.agrees.tree)
     c.go_on.new.self.undos c.go_on.ensures.undos c.args.self.now.run.run c.go_on.new.self.run run c.go_on.ensures.run c.requires.ready.run
     c.in-Ok.ensures.asked there in
     let has = c.accept_running.ensures 0 (resumed_run (roomless_tree tree) run) plain in
     record {
       reply = Reply.Resumes None;
-      can = held_reply tree c.args.self.now.run.undos c.unedited_may_resume.ensures c.fitting_runs_are_kept.ensures
+      can = held_reply tree (plain_session c.args.self.now).earlier c.args.self.now.run.undos c.unedited_may_resume.ensures c.fitting_runs_are_kept.ensures
           c.answers_ignore_room_and_elision.ensures.room c.args.self.now.run.run run None there c.requires.ready.run c.in-Ok.ensures.asked
           c.in-Ok.ensures.unedited goes;
       has = going_asked (plain_session c.args.self.now) c.args.steps run (Reply.Resumes None)
@@ -70,7 +71,7 @@ returns-in-Err g c run there =
     let goes = held_reason run c.args.reason there c.requires.stands c.in_default.not-Ended in
     record {
       reply = Reply.Resumes (Some c.in-Err.refusal);
-      can = held_reply tree c.args.self.now.run.undos c.unedited_may_resume.ensures c.fitting_runs_are_kept.ensures
+      can = held_reply tree (plain_session c.args.self.now).earlier c.args.self.now.run.undos c.unedited_may_resume.ensures c.fitting_runs_are_kept.ensures
           c.answers_ignore_room_and_elision.ensures.room c.args.self.now.run.run run (Some c.in-Err.refusal) there c.requires.ready.run
           c.in-Err.ensures.asked c.in-Err.ensures.unedited goes;
       has = going_asked (plain_session c.args.self.now) c.args.steps run (Reply.Resumes (Some c.in-Err.refusal))

@@ -14,6 +14,7 @@ loop-self-init g c = record {
   so_far = begins (own_steps c.args.self.now) (plain_session c.args.self.now) (g.W.Work.counts c.args.work.now) c.requires.running c.requires.defined;
   session = c.requires.session;
   program = refl;
+  edits = refl;
   screens = refl;
   input = refl;
   fits = λ code fits goes_on. goes_on;
@@ -89,6 +90,7 @@ loop-self-preserved g c =
           next.counted;
       session = next.session;
       program = next.program ∙ invariant.program;
+      edits = next.edits ∙ invariant.edits;
       screens = next.screens ∙ invariant.screens;
       input = next.input ∙ invariant.input;
       fits = λ code fits goes_on. next.fits (same_code first now invariant.program code) (invariant.stays_fit code fits) (invariant.fits code fits goes_on);

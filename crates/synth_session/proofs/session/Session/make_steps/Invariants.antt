@@ -13,6 +13,7 @@ invariant-loop-self g l = record {
       (g.W.Work.counts l.fn.work) (g.W.Work.counts l.work);
   session : IsSession l.self;
   program : l.self.program ≡ l.fn.self.program;
+  edits : l.self.edits ≡ l.fn.self.edits;
   screens : l.self.screens ≡ l.fn.self.screens;
   input : l.self.input ≡ l.fn.self.input;
   fits : HasProgramCode l.fn.self → RunFits (plain_session l.fn.self) → HasFittingRun l.fn.self → HasFittingRun l.self;

@@ -60,13 +60,13 @@ returns-in-None-clause-tried g c =
     c.in_ok-try_step.field-0 None c.in-None.is c.in_ok-try_step.ensures.tried)
 
 pub returns-in-None-clause-fits : goal.returns-in-None-clause-fits
-returns-in-None-clause-fits g c code =
+returns-in-None-clause-fits g c code fits =
     let old = c.args.self.now in
     let new = c.try_step.new.self in
     made_goes_on c.steps_of_programs.ensures old.program.tree c.requires.session.agrees.tree old.program.dependents.code code old.input old.run.undos
     new.undos old.run.run new.run
     (tries_as old.program.dependents.code old.input c.as_slice.result.now c.as_slice.ensures.bytes old.run.undos new.undos old.run.run new.run
-    c.in_ok-try_step.field-0 None c.in-None.is c.in_ok-try_step.ensures.tried)
+    c.in_ok-try_step.field-0 None c.in-None.is c.in_ok-try_step.ensures.tried) fits (plain_session old).earlier
 
 pub returns-in-None-clause-stays_fit : goal.returns-in-None-clause-stays_fit
 returns-in-None-clause-stays_fit g c code =
@@ -90,7 +90,7 @@ pub returns-in-Some-clause-fits : goal.returns-in-Some-clause-fits
 returns-in-Some-clause-fits g c code fits =
     let old = c.args.self.now in
     let new = c.try_step.new.self in
-    held_still old.run.undos new.undos c.in-Some.reason (HeldGoesOn (roomless_tree old.program.tree))
+    held_still old.run.undos new.undos c.in-Some.reason (HeldGoesOn (roomless_tree old.program.tree) (plain_session old).earlier)
     (λ x. result_of (Exec old.program.dependents.code old.input x)) old.run.run new.run
     (tries_as old.program.dependents.code old.input c.as_slice.result.now c.as_slice.ensures.bytes old.run.undos new.undos old.run.run new.run
     c.in_ok-try_step.field-0 (Some c.in-Some.reason) c.in-Some.is c.in_ok-try_step.ensures.tried)

@@ -4,8 +4,10 @@
 use Rattle.std.proofs.Common.{◌+◌, ap, sym, subst, refl, ◌∙◌}
 use Rattle.std.proofs.lemmas.Result.{err_from_is_err_and}
 use Rattle.plcs_machine.specs.Fetched.{FetchesAtMost, FetchesBy}
+use Rattle.template_tree.specs.Programs.PlainTree.{roomless_tree}
+use Rattle.synth_session.specs.declared.program.Program.{Program}
 use Rattle.synth_session.specs.PlainSession.{PlainSession}
-use Rattle.synth_session.specs.SessionView.{HasCode, plain_session}
+use Rattle.synth_session.specs.SessionView.{EditsFit, HasCode, plain_session}
 use Rattle.synth_session.specs.Tick.{IsRunning, TickOutcome, steps_left}
 use Rattle.synth_top.specs.Turn.{steps_of}
 use Rattle.synth_top.proofs.MadeKeys.{all_left, last_made, left_there, more_made, ticks_unmade}
@@ -67,6 +69,10 @@ loop-tick-preserved g c =
         session = c.tick.ensures.session;
         code = subst HasCode (sym c.tick.ensures.program) invariant.ready.code;
         run = c.tick.ensures.fits invariant.ready.code invariant.fits invariant.ready.run;
+        edits =
+            subst (λ edits. EditsFit edits (roomless_tree c.tick.new.self.program.tree)) (sym c.tick.ensures.edits)
+            (subst (λ (p : Program _). EditsFit c.loop-tick.self.session.edits (roomless_tree p.tree)) (sym c.tick.ensures.program)
+            invariant.ready.edits);
       };
       running = subst IsRunning (sym is_ticked) goes_on.running;
       fits = c.tick.ensures.stays_fit invariant.ready.code invariant.fits;

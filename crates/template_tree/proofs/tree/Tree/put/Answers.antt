@@ -17,5 +17,5 @@ returns-clause-edit c =
     (put_receipt c.args.self.now c.args.path.now.items c.exchange-old.result.0 c.args.node _ c.exchange-old.result.1
     (PlainUndoing.put (roomless_node c.exchange-old.result.0)) None _ c.requires.tree there
     (of_there (node_at c.args.self.now.items c.args.path.now.items) (MayReplace c.args.self.now c.args.node) c.exchange-old.result.0 there c.requires.fits)
-    c.exchange-old.ensures.put c.exchange-old.ensures.change refl (λ _. tt)
+    c.exchange-old.ensures.put c.exchange-old.ensures.change refl refl (refl, refl) refl (λ _. tt)
     (λ i. record { change = c.exchange-old.result.1; path = c.copy_path.ensures i; undoing = PlainUndoing.put (roomless_node c.exchange-old.result.0); drawn = drawn i; live = live i }))

@@ -45,7 +45,7 @@ returns-clause-edited c =
     (Some c.exchange-node.result.0) (bare_is c.bare-hole.result 0 c.in-Some-hole_left.kind c.bare-hole.ensures)
     (put_receipt tree path c.exchange-node.result.0 c.bare-hole.result c.exchange-node.new.self c.exchange-node.result.1
     PlainUndoing.put_back (Some c.exchange-node.result.0) _ c.requires.tree c.exchange-node.ensures.old may c.exchange-node.ensures.put
-    c.exchange-node.ensures.change refl (λ _. tt)
+    c.exchange-node.ensures.change refl refl (refl, refl) refl (λ _. tt)
     (λ i. record { change = c.exchange-node.result.1; path = c.copy_path.ensures i; undoing = PlainUndoing.put_back; drawn = drawn i; live = live i }))
     in
     let own : hole_left c.exchange-node.result.0.label.kind ≡ Some c.in-Some-hole_left.kind =
