@@ -83,7 +83,7 @@ applied_is room outcome one other slot before after receipt back stop at edit sa
           ∙ (λ i. Edited.became (roomless_tree after) (there i) (option_map roomless_node back) (what i) (changed i))));
       tree = edit.tree;
       stop = seen;
-      change = room.changes before after receipt.change edit.differs;
+      change = (room.changes before after receipt.change).0 edit.differs;
       undoes = edit.undoes;
       can_undo = edit.can_undo;
       can_revert = edit.can_revert;

@@ -141,19 +141,49 @@ differ_roomless What.Dropped slot before after h =
     let to : PlainNode → List PlainNode = λ _. [] in
     (times_roomless slot before ∙ h.0, roomless_twice after ∙ (h.1 ∙ same_items slot to to to (λ _. refl) (λ _. refl) before))
 
+differ_with_room : (what : What) (slot : ℕ) (before after : Forest) → DifferBy what slot (roomless before) (roomless after)
+    → DifferBy what slot before after
+differ_with_room What.Node slot before after h =
+    let to : PlainNode → List PlainNode = λ _. h.0 ∷ [] in
+    (h.0, h.1, sym (roomless_twice after) ∙ (h.2 ∙ sym (same_items slot to to (λ _. roomless_node h.0 ∷ []) (λ _. refl) (λ _. refl) before)))
+differ_with_room (What.Part part) slot before after h =
+    let to : PlainNode → List PlainNode = λ node. with_part part h.0 node ∷ [] in
+    (h.0, sym (roomless_twice after) ∙ (h.1 ∙ sym (same_items slot to to to (λ _. refl) (λ _. refl) before)))
+differ_with_room What.Added slot before after h =
+    let to : PlainNode → List PlainNode = λ _. [] in
+    (sym (times_roomless slot after) ∙ h.0, sym (roomless_twice before) ∙ (h.1 ∙ sym (same_items slot to to to (λ _. refl) (λ _. refl) after)))
+differ_with_room What.Dropped slot before after h =
+    let to : PlainNode → List PlainNode = λ _. [] in
+    (sym (times_roomless slot before) ∙ h.0, sym (roomless_twice after) ∙ (h.1 ∙ sym (same_items slot to to to (λ _. refl) (λ _. refl) before)))
+
 changed_roomless : (what : What) (before after : Forest) → changed_in what (roomless before) (roomless after) ≡ roomless (changed_in what before after)
 changed_roomless What.Node before after = refl
 changed_roomless (What.Part part) before after = refl
 changed_roomless What.Added before after = refl
 changed_roomless What.Dropped before after = refl
 
--- trees differ by a change with and without room
+-- the change is in the same procedure
+within_roomless : (before after : PlainTree) (change : Change)
+    → procedure_of (changed_in change.what (roomless before.items) (roomless after.items)) change.slot.0
+    ≡ procedure_of (changed_in change.what before.items after.items) change.slot.0
+within_roomless before after change =
+    ap (λ items. procedure_of items change.slot.0) (changed_roomless change.what before.items after.items)
+    ∙ procedure_roomless (changed_in change.what before.items after.items) change.slot.0
+
+-- trees that differ by a change differ by it without room
 pub differs_roomless : (before after : PlainTree) (change : Change) → Differs before after change
     → Differs (roomless_tree before) (roomless_tree after) change
 differs_roomless before after change h =
     record {
       by = differ_roomless change.what change.slot.0 before.items after.items h.by;
-      within =
-          ap (λ items. procedure_of items change.slot.0) (changed_roomless change.what before.items after.items)
-          ∙ (procedure_roomless (changed_in change.what before.items after.items) change.slot.0 ∙ h.within);
+      within = within_roomless before after change ∙ h.within;
+    }
+
+-- trees that differ by a change without room differ by it
+pub differs_with_room : (before after : PlainTree) (change : Change) → Differs (roomless_tree before) (roomless_tree after) change
+    → Differs before after change
+differs_with_room before after change h =
+    record {
+      by = differ_with_room change.what change.slot.0 before.items after.items h.by;
+      within = sym (within_roomless before after change) ∙ h.within;
     }

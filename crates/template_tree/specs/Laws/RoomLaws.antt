@@ -85,8 +85,8 @@ EditsIgnoreRoom =
     (one other : TreeEdit) (before : PlainTree) (slot : ℕ)
     → roomless_tree_edit one ≡ roomless_tree_edit other → IsSameAfter one other before slot
 
--- trees that differ by a change differ by it without room
+-- trees differ by a change exactly where they do without room
 abbrev pub ChangesIgnoreRoom : Type 0
 ChangesIgnoreRoom =
-    (before after : PlainTree) (change : Change) → Differs before after change
-    → Differs (roomless_tree before) (roomless_tree after) change
+    (before after : PlainTree) (change : Change)
+    → Differs before after change ↔ Differs (roomless_tree before) (roomless_tree after) change
