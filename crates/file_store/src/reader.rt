@@ -85,7 +85,7 @@ fn read_lines(alloc: Global, bytes: &[u8]) -> Result<Tree, FileRefusal>
         return Err(FileRefusal::NotAListing(number));
     }
     match finish(stack) {
-        Ok(items) => Ok(tree_of(items)),
+        Ok(items) => Ok(tree_of(alloc, items)),
         Err(fault) => Err(refused_in(number, fault)),
     }
 }
@@ -218,7 +218,7 @@ fn split_line<'a, 'b>(text: &'a [u8], starts: &'b [u32]) -> Option<(&'a [u8], &'
 }
 
 /// The tree of the program that the reader found, which is within the limits.
-fn tree_of(items: Nodes) -> Tree
+fn tree_of(alloc: Global, items: Nodes) -> Tree
     requires program { IsProgram (forest items.items) }
     requires shallow { depth (forest items.items) ≤ deepest_path }
     requires few { count (forest items.items) ≤ most_slots }
@@ -226,7 +226,16 @@ fn tree_of(items: Nodes) -> Tree
     ensures tree { IsTree result }
 {
     match Tree::built(items) {
-        Ok(tree) => tree,
+        Ok(tree) => with_slots_entered(alloc, tree),
         Err(_) => unreachable!(),
     }
+}
+
+/// The tree that was built, in which it is noted where its slots stand, if there is memory for it.
+fn with_slots_entered(alloc: Global, tree: Tree) -> Tree
+    ensures { result ≡ tree }
+{
+    let mut entered = tree;
+    let _ = entered.enter_slots(alloc);
+    entered
 }

@@ -35,10 +35,12 @@ pub enum Case {
     Terminal,
     /// Edits random lists of numbers.
     Sums,
+    /// Says where nodes stand.
+    Homes,
 }
 
 /// The cases on what is derived from a program, with their names.
-pub static CASES: [(&[u8], Case); 19] = [
+pub static CASES: [(&[u8], Case); 20] = [
     (b"program", Case::Program),
     (b"take", Case::Take),
     (b"elide", Case::Elide),
@@ -58,4 +60,5 @@ pub static CASES: [(&[u8], Case); 19] = [
     (b"paintings", Case::Paintings),
     (b"terminal", Case::Terminal),
     (b"sums", Case::Sums),
+    (b"homes", Case::Homes),
 ];

@@ -1,5 +1,5 @@
 //! The program of cases on what is derived from a program, which are its declarations, marks, layout and
-//! screens, and on sums of numbers. It plays a script, and prints what each case answers.
+//! screens, on sums of numbers, and on where nodes are said to stand. It plays a script, and prints what each case answers.
 #![tactic(auto)]
 
 ghost use Rattle.template_tree.specs.Programs.Tree.{IsTree};
@@ -8,6 +8,7 @@ mod case;
 mod cells;
 mod declarations;
 mod held;
+mod homes;
 mod lines;
 mod marks;
 mod mending;
@@ -25,6 +26,7 @@ mod words;
 use crate::case::{CASES, Case};
 use crate::declarations::declarations;
 use crate::held::Held;
+use crate::homes::homes;
 use crate::lines::{lines, stops};
 use crate::marks::{check, marks};
 use crate::mending::mend;
@@ -99,7 +101,7 @@ fn play_words(alloc: Global, held: &mut Held, words: &[Vec<u8>], told: &mut Told
     play(alloc, held, meaning(&CASES, name.as_slice())?, words, told)
 }
 
-/// Plays this one of the script's cases, on what is derived from a program or on sums, with these words behind
+/// Plays this one of the script's cases, on what is derived from a program or on no program, with these words behind
 /// its name, if it takes them.
 fn play(
     alloc: Global,
@@ -146,6 +148,7 @@ fn ask(alloc: Global, held: &mut Held, case: Case, words: &[Vec<u8>], told: &mut
         Case::Paintings => paintings(alloc, tree, words, told),
         Case::Terminal => terminal(alloc, words, told),
         Case::Sums => sums(alloc, words, told),
+        Case::Homes => homes(alloc, words, told),
         _ => None,
     }
 }

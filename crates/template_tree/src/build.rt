@@ -16,6 +16,7 @@ use crate::phrase_place::PhrasePlace;
 use crate::tree::Tree;
 use plcs_base::Slot;
 use plcs_grammar::NodeKind;
+use slot_homes::Homes;
 
 /// The limit that the items are over of which a tree was to be built.
 #[derive(Clone, Copy, Debug, PartialEq, Eq)]
@@ -64,12 +65,14 @@ impl Tree {
         let Some(left) = slots_left(items.as_slice(), MOST_SLOTS) else {
             return Err(BuildLimit::TooLarge);
         };
+        let homes = Homes::new(items.allocator());
         let mut items = items;
         draw_slots(&mut items, 0);
         Ok(Tree {
             items,
             drawn: MOST_SLOTS - left,
             live: MOST_SLOTS - left,
+            homes,
         })
     }
 }

@@ -15,6 +15,7 @@ use crate::path::{Path, copy_path};
 use crate::receipt::{Receipt, Undoing};
 use crate::tree::Tree;
 use plcs_base::Slot;
+use std::alloc::Global;
 use std::mem;
 
 impl Tree {
@@ -37,9 +38,35 @@ impl Tree {
         }
     }
 
+    /// As `put`, for an edit that may take memory: where there is some, all slots are noted that aren't yet.
+    pub(crate) fn put_fresh(&mut self, alloc: Global, path: &Path, node: Node) -> Receipt
+        requires tree { IsTree self.old }
+        requires fits { IsSomeAnd (node_at self.old.items path.now.items) (MayReplace self.old node) }
+        ensures edit { IsEdit (TreeEdit.put node) (slot_in (node_at self.old.items path.now.items)) self.old self.new
+            result None }
+        ensures no_room { NeedsNoRoom result }
+    {
+        let receipt = self.put(path, node);
+        let _ = self.enter_slots(alloc);
+        receipt
+    }
+
     /// Puts the node in place of the one at the path, into its slot, with the next slots for what stands
-    /// inside it. Gives out the old node and what was changed.
+    /// inside it, and notes where all these stand. Gives out the old node and what was changed.
     pub(crate) fn exchange(&mut self, path: &Path, node: Node) -> (Node, Change)
+        requires tree { IsTree self.old }
+        requires fits { IsSomeAnd (node_at self.old.items path.now.items) (MayReplace self.old node) }
+        ensures old { node_at self.old.items path.now.items ≡ Some result.0 }
+        ensures put { self.new ≡ Put self.old result.0.label.slot node }
+        ensures change { IsChangeOf self.new result.0.label.slot What.Node result.1 }
+    {
+        let exchanged = self.exchange_nodes(path, node);
+        self.note(path);
+        exchanged
+    }
+
+    /// As `exchange`, but notes nothing.
+    fn exchange_nodes(&mut self, path: &Path, node: Node) -> (Node, Change)
         requires tree { IsTree self.old }
         requires fits { IsSomeAnd (node_at self.old.items path.now.items) (MayReplace self.old node) }
         ensures old { node_at self.old.items path.now.items ≡ Some result.0 }

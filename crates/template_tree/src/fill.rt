@@ -58,7 +58,7 @@ impl Tree {
         let Ok(node) = Node::fresh(alloc, kind) else {
             return Err(TreeFault::OutOfMemory);
         };
-        Ok(self.put(path, node))
+        Ok(self.put_fresh(alloc, path, node))
     }
 }
 

@@ -30,6 +30,7 @@ mod fill_assign;
 mod filled_part;
 mod headings;
 mod hole;
+mod homes;
 mod insert;
 mod limit;
 mod limit_reached;

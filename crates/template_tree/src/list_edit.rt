@@ -50,7 +50,7 @@ impl Tree {
         }
         let (drawn, live) = (self.drawn, self.live);
         let node = Node::bare(alloc, Slot(drawn), hole);
-        if let Err(_) = self.add_beside(path, side, node) {
+        if let Err(_) = self.add_beside(alloc, path, side, node) {
             return Err(TreeFault::OutOfMemory);
         }
         let added = added_path(side, path);
@@ -127,9 +127,28 @@ impl Tree {
         are_two(sort, self.siblings_at(path))
     }
 
-    /// Puts the hole that is added beside the item at the path, and takes memory for it; the tree's
-    /// counts stay.
-    fn add_beside(&mut self, path: &Path, side: Side, node: Node) -> Result<(), OutOfMemory>
+    /// Puts the hole that is added beside the item at the path, takes memory for it, and notes where it
+    /// stands; the tree's counts stay. Where there is memory for that too, all slots are noted that aren't yet.
+    fn add_beside(
+        &mut self,
+        alloc: Global,
+        path: &Path,
+        side: Side,
+        node: Node,
+    ) -> Result<(), OutOfMemory>
+        requires there { IsSome (node_at self.old.items path.now.items) }
+        ensures added { IfOk result (λ _. roomless_tree self.new ≡ with_edit (with_beside side (roomless_node node))
+            path.now.items (roomless_tree self.old)) }
+        ensures refused { IfErr result (λ _. self.new ≡ self.old) }
+    {
+        self.add_item(path, side, node)?;
+        self.note_list(path);
+        let _ = self.enter_slots(alloc);
+        Ok(())
+    }
+
+    /// As `add_beside`, but notes nothing.
+    fn add_item(&mut self, path: &Path, side: Side, node: Node) -> Result<(), OutOfMemory>
         requires there { IsSome (node_at self.old.items path.now.items) }
         ensures added { IfOk result (λ _. roomless_tree self.new ≡ with_edit (with_beside side (roomless_node node))
             path.now.items (roomless_tree self.old)) }
@@ -141,8 +160,21 @@ impl Tree {
         self.items.add_at(*k as usize, rest, side, node)
     }
 
-    /// Drops the hole at the path from its list, if one is there, and gives it; the tree's counts stay.
+    /// Drops the hole at the path from its list, if one is there, gives it, and notes where its neighbours
+    /// stand; the tree's counts stay.
     pub(crate) fn drop_item(&mut self, path: &Path) -> Option<Node>
+        ensures taken { result ≡ node_at self.old.items path.now.items }
+        ensures others { roomless_tree self.new ≡ with_edit (λ _. []) path.now.items (roomless_tree self.old) }
+        ensures none { IfNone result (self.new ≡ self.old) }
+        ensures room { IfSome result (λ _. 0 < list_room self.new.spare self.new.items path.now.items) }
+    {
+        let item = self.take_item(path);
+        self.note_list(path);
+        item
+    }
+
+    /// As `drop_item`, but notes nothing.
+    fn take_item(&mut self, path: &Path) -> Option<Node>
         ensures taken { result ≡ node_at self.old.items path.now.items }
         ensures others { roomless_tree self.new ≡ with_edit (λ _. []) path.now.items (roomless_tree self.old) }
         ensures none { IfNone result (self.new ≡ self.old) }

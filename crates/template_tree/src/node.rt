@@ -144,6 +144,11 @@ impl Nodes {
         }
     }
 
+    /// By which memory is taken for the list.
+    pub(crate) fn allocator(&self) -> Global {
+        *self.list.allocator()
+    }
+
     /// How many nodes the list has.
     pub(crate) fn len(&self) -> usize
         ensures { result ≡ length self.now.items }

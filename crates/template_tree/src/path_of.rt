@@ -6,20 +6,43 @@ ghost use Rattle.template_tree.specs.Programs.PlainTree.{forest};
 ghost use Rattle.template_tree.specs.Programs.Slots.{count, depth, times};
 ghost use Rattle.template_tree.specs.Programs.Tree.{IsTree};
 
+use crate::homes::way_down;
 use crate::node::Node;
 use crate::path::Path;
 use crate::tree::Tree;
 use plcs_base::Slot;
 
 impl Tree {
-    /// The path of the node in the slot, or `None` where the slot isn't live. It takes no memory, and
-    /// time in proportion to the number of slots.
+    /// The path of the node in the slot, or `None` where the slot isn't live. It takes no memory. Where the node
+    /// stands where the tree has noted it, or near there, it takes time by the length of the path alone; else, as
+    /// wherever the slot isn't live, in proportion to the number of slots.
     pub fn path_of(&self, slot: Slot) -> Option<Path>
         requires tree { IsTree self.now }
         ensures none { IsNone result ↔ (times slot.0 self.now.items ≡ 0) }
         ensures path { IfSome result (λ path. slot_at self.now.items path.items ≡ Some slot.0) }
     {
+        if let Some(path) = self.path_noted(slot) {
+            return Some(path);
+        }
         path_in(self.items.as_slice(), slot)
+    }
+
+    /// The path of the node in the slot, if it stands where that is noted, or near there; so `None` says nothing of
+    /// the tree.
+    fn path_noted(&self, slot: Slot) -> Option<Path>
+        requires tree { IsTree self.now }
+        ensures { IfSome result (λ path. slot_at self.now.items path.items ≡ Some slot.0) }
+    {
+        let Some(path) = way_down(self.items.as_slice(), &self.homes, slot) else {
+            return None;
+        };
+        let Some(node) = self.node(&path) else {
+            return None;
+        };
+        if node.slot().0 != slot.0 {
+            return None;
+        }
+        Some(path)
     }
 }
 

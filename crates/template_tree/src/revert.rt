@@ -222,8 +222,20 @@ impl Tree {
         }
     }
 
-    /// Puts the node, which comes back, in place of the one at the path, and gives that one.
+    /// Puts the node, which comes back, in place of the one at the path, notes where it stands, and gives that one.
     fn swap_node(&mut self, path: &Path, node: Node) -> Node
+        requires tree { IsTree self.old }
+        requires there { IsSome (node_at self.old.items path.now.items) }
+        ensures came { self.new ≡ with_node self.old path.now.items node }
+        ensures gone { node_at self.old.items path.now.items ≡ Some result }
+    {
+        let gone = self.bring_node_back(path, node);
+        self.note(path);
+        gone
+    }
+
+    /// As `swap_node`, but notes nothing.
+    fn bring_node_back(&mut self, path: &Path, node: Node) -> Node
         requires tree { IsTree self.old }
         requires there { IsSome (node_at self.old.items path.now.items) }
         ensures came { self.new ≡ with_node self.old path.now.items node }

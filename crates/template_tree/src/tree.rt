@@ -8,6 +8,7 @@ ghost use Rattle.template_tree.specs.Programs.Tree.{IsTree};
 use crate::node::{Node, Nodes};
 use plcs_base::{OutOfMemory, Slot};
 use plcs_grammar::NodeKind;
+use slot_homes::Homes;
 use std::alloc::Global;
 use std::marker::Model;
 
@@ -20,6 +21,7 @@ pub struct Tree {
     pub(crate) items: Nodes,
     pub(crate) drawn: u32,
     pub(crate) live: u32,
+    pub(crate) homes: Homes,
 }
 
 impl Model for Tree {
@@ -57,6 +59,7 @@ impl Tree {
             items,
             drawn: 4,
             live: 4,
+            homes: Homes::new(alloc),
         })
     }
 

@@ -55,8 +55,19 @@ impl Tree {
 }
 
 impl Tree {
-    /// Puts a node again in place of the one at the path, once an edit is undone, if there is one to come back.
+    /// Puts a node again in place of the one at the path, once an edit is undone, if there is one to come back, and
+    /// notes where it stands.
     fn restore_node(&mut self, path: &Path, back: Option<Node>)
+        requires tree { IsTree self.old }
+        ensures { roomless_tree self.new ≡ with_edit (λ item. node_back back item ∷ []) path.now.items
+            (roomless_tree self.old) }
+    {
+        self.put_node_back(path, back);
+        self.note(path);
+    }
+
+    /// As `restore_node`, but notes nothing.
+    fn put_node_back(&mut self, path: &Path, back: Option<Node>)
         requires tree { IsTree self.old }
         ensures { roomless_tree self.new ≡ with_edit (λ item. node_back back item ∷ []) path.now.items
             (roomless_tree self.old) }
@@ -82,8 +93,18 @@ impl Tree {
         node.restore_part(part, place);
     }
 
-    /// Undoes an addition: takes the item at the path, which an edit added, out of its list.
+    /// Undoes an addition: takes the item at the path, which an edit added, out of its list, and notes where its
+    /// neighbours stand.
     fn remove_added(&mut self, path: &Path)
+        requires tree { IsTree self.old }
+        ensures { roomless_tree self.new ≡ with_edit (λ _. []) path.now.items (roomless_tree self.old) }
+    {
+        self.take_added_out(path);
+        self.note_list(path);
+    }
+
+    /// As `remove_added`, but notes nothing.
+    fn take_added_out(&mut self, path: &Path)
         requires tree { IsTree self.old }
         ensures { roomless_tree self.new ≡ with_edit (λ _. []) path.now.items (roomless_tree self.old) }
     {
@@ -93,8 +114,20 @@ impl Tree {
         self.items.remove_at(*k as usize, rest);
     }
 
-    /// Undoes a drop: puts the hole, which an edit dropped, back into its list beside the item at the path.
+    /// Undoes a drop: puts the hole, which an edit dropped, back into its list beside the item at the path, and notes
+    /// where it stands.
     pub(crate) fn restore_dropped(&mut self, path: &Path, side: Side, hole: Node)
+        requires tree { IsTree self.old }
+        requires room { 0 < list_room self.old.spare self.old.items path.now.items }
+        ensures { roomless_tree self.new ≡ with_edit (with_beside side (roomless_node hole)) path.now.items
+            (roomless_tree self.old) }
+    {
+        self.put_dropped_back(path, side, hole);
+        self.note_list(path);
+    }
+
+    /// As `restore_dropped`, but notes nothing.
+    fn put_dropped_back(&mut self, path: &Path, side: Side, hole: Node)
         requires tree { IsTree self.old }
         requires room { 0 < list_room self.old.spare self.old.items path.now.items }
         ensures { roomless_tree self.new ≡ with_edit (with_beside side (roomless_node hole)) path.now.items

@@ -33,7 +33,7 @@ pub(crate) enum Case {
 }
 
 /// Each word that a case on trees begins with, with its case.
-pub(crate) static CASES: [(&[u8], Case); 47] = [
+pub(crate) static CASES: [(&[u8], Case); 48] = [
     (b"fill", Case::Edit(EditWord::Fill)),
     (b"fill_assign", Case::Edit(EditWord::FillAssign)),
     (b"set_phrase", Case::Edit(EditWord::SetPhrase)),
@@ -57,6 +57,7 @@ pub(crate) static CASES: [(&[u8], Case); 47] = [
     (b"keep", Case::Tree(TreeCall::Keep)),
     (b"same", Case::Tree(TreeCall::Same)),
     (b"elide", Case::Tree(TreeCall::Elide)),
+    (b"enter_slots", Case::Tree(TreeCall::EnterSlots)),
     (b"take_as", Case::Held(HeldCall::TakeAs)),
     (b"copy_node", Case::Held(HeldCall::CopyNode)),
     (b"copy", Case::Held(HeldCall::Copy)),

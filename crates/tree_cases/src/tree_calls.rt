@@ -1,4 +1,4 @@
-//! Cases that make a tree, hide and show refinements, and compare a tree with one before.
+//! Cases that make a tree, hide and show refinements, note where slots stand, and compare a tree with one before.
 ghost use Rattle.std.specs.Prelude.{IfOk, IfSome};
 ghost use Rattle.template_tree.specs.Programs.Tree.{IsTree};
 
@@ -40,7 +40,7 @@ fn new_tree(alloc: Global) -> Option<Tree>
     Tree::new(alloc).ok()
 }
 
-/// A call of a case that makes a tree, hides or shows a refinement, or compares a tree with one before.
+/// A call of a case that makes a tree, hides or shows a refinement, notes slots, or compares a tree with one before.
 #[derive(Clone, Copy)]
 pub(crate) enum TreeCall {
     /// `new`: a new tree, with no nodes held.
@@ -53,9 +53,11 @@ pub(crate) enum TreeCall {
     Same,
     /// `elide AT`: hides the refinement of a comment, or shows it again.
     Elide,
+    /// `enter_slots`: notes where all slots stand.
+    EnterSlots,
 }
 
-/// Plays a case that makes a tree, hides or shows a refinement, or compares a tree with one before.
+/// Plays a case that makes a tree, hides or shows a refinement, notes slots, or compares a tree with one before.
 pub(crate) fn play(
     alloc: Global,
     trees: &mut Trees,
@@ -74,6 +76,7 @@ pub(crate) fn play(
         (TreeCall::Keep, []) => keep(trees, told),
         (TreeCall::Same, []) => compare(trees, told),
         (TreeCall::Elide, [at]) => elide(&mut trees.tree, at, told),
+        (TreeCall::EnterSlots, []) => enter_slots(alloc, &mut trees.tree, told),
         _ => None,
     }
 }
@@ -140,5 +143,17 @@ fn elide(tree: &mut Tree, at: &[u8], told: &mut Told) -> Option<()>
 {
     let at = find(tree, at)?;
     told.value_line(&tree.elide(&at));
+    Some(())
+}
+
+/// Notes where all slots of the tree of the cases stand, where the tree has no places yet for so many.
+fn enter_slots(alloc: Global, tree: &mut Tree, told: &mut Told) -> Option<()>
+    requires { IsTree tree.old }
+    ensures { IsTree tree.new }
+{
+    match tree.enter_slots(alloc) {
+        Ok(()) => told.line("Done"),
+        Err(fault) => told.value_line(&fault),
+    }
     Some(())
 }

@@ -1,5 +1,36 @@
+-- The loaded program is taken with the cursor at its first stop, and the run and the edits that can be undone are let go
+-- of; nothing else of the session changes.
+use Rattle.std.proofs.Common.{◌≡◌, [], None, option_map, ap, ◌∙◌}
+use Rattle.template_tree.specs.Positions.Stop.{plain_stop}
+use Rattle.template_tree.specs.Programs.PlainTree.{roomless_tree}
+use Rattle.cursor_moves.specs.Move.{first_stop}
+use Rattle.edit_undo.specs.EarlierTree.{trees_before}
+use Rattle.synth_session.specs.KeyOutcome.{line_acceptance_outcome}
+use Rattle.synth_session.specs.PlainSession.{PlainSession}
+use Rattle.synth_session.specs.SessionView.{plain_run, plain_session}
 use Rattle.synth_session.proofs.NotedEdits.{none_fit}
 use Rattle.synth_session.proofs.session.Session.begin_with.Goals as goal
 
 pub accept_line-requires-clause-edits : goal.accept_line-requires-clause-edits
 accept_line-requires-clause-edits g c = none_fit c.clear.new.self _ c.clear.ensures
+
+pub returns : goal.returns
+returns g c =
+    let s = c.args.self.now in
+    let tree = roomless_tree c.args.program.tree in
+    let seen :
+    plain_session (record s { program = c.args.program; stop = c.top-self.result; top = 0; run = c.end.new.self; edits = c.clear.new.self })
+    ≡ record (plain_session s) { tree = tree; stop = first_stop tree.items; top = 0; run = None; earlier = [] } =
+    λ i. record (plain_session s) {
+      tree = tree;
+      stop = c.top-self.ensures.first i;
+      top = 0;
+      run = option_map (plain_run tree.items c.end.new.self.undos) (c.end.ensures.run i);
+      earlier = trees_before (c.clear.ensures i) tree;
+    } in
+    record {
+      session = c.accept_line.ensures.session;
+      screens = c.accept_line.ensures.screens;
+      after = c.accept_line.ensures.after ∙ ap (λ (t : PlainSession). (line_acceptance_outcome t).after) seen;
+      answered = c.accept_line.ensures.answered;
+    }

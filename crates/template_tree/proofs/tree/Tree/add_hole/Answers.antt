@@ -105,7 +105,7 @@ returns-clause-edited c =
     let hole_same : roomless_node c.bare-node.result ≡ lone tree.drawn hole =
     bare_is c.bare-node.result c.self.inside.drawn hole c.bare-node.ensures ∙ ap (λ d. lone d hole) drawn in
     let after : PlainTree =
-    the_view record { items = c.self-2.inside.items; drawn = c.self.inside.drawn + 1; live = c.self.inside.live + 1 } in
+    the_view record { items = c.self-2.inside.items; drawn = c.self.inside.drawn + 1; live = c.self.inside.live + 1; homes = c.self-2.inside.homes } in
     let change : Change =
     record { slot = record { 0 = c.self.inside.drawn }; procedure = c.procedure_at-procedure.result; what = What.Added } in
     let others : roomless after.items ≡ edit_at (with_beside side (lone tree.drawn hole)) path (roomless tree.items) =

@@ -40,7 +40,7 @@ returns-clause-edited c =
     let spare : IsSpareHole tree.items path node =
     of_there (node_at tree.items path) (IsSpareHole tree.items path) node there (c.is_spare_hole.ensures.0 c.if-not-is_spare_hole.false) in
     let after : PlainTree =
-    the_view record { items = c.self-2.inside.items; drawn = c.self-2.inside.drawn; live = c.self.inside.live - 1 } in
+    the_view record { items = c.self-2.inside.items; drawn = c.self-2.inside.drawn; live = c.self.inside.live - 1; homes = c.self-2.inside.homes } in
     let change : Change =
     record { slot = c.hole.inside.slot; procedure = c.procedure_at-procedure.result; what = What.Dropped } in
     let others : roomless after.items ≡ edit_at (λ _. []) path (roomless tree.items) =

@@ -48,8 +48,8 @@ returns-in_default-fresh-clause-refused c =
     (λ node. IsHoleFor (NodeKind.Filled c.args.template) node × IsWithin (Put c.args.self.now node.label.slot (fresh_node (NodeKind.Filled c.args.template))))
     c.in-Some.there.now at (here, kept)
 
-pub put-requires-clause-fits : goal.put-requires-clause-fits
-put-requires-clause-fits c =
+pub put_fresh-requires-clause-fits : goal.put_fresh-requires-clause-fits
+put_fresh-requires-clause-fits c =
     let kind = NodeKind.Filled c.args.template in
     let at = sym c.in-Some.ensures.found in
     let here : IsHoleFor kind c.in-Some.there.now =
@@ -77,9 +77,9 @@ returns-clause-edited c =
           at_there there (IsHoleFor (NodeKind.Filled c.args.template)) c.in-Some.there.now (sym c.in-Some.ensures.found)
           (c.is_hole_for.ensures.0 c.if-not-is_hole_for.false ∙ ap (λ (n : PlainNode). Some n.label.kind) c.there.view_is);
       is_edit =
-          edit_like c.in-Ok.node fresh (slot_in there) c.args.self.now c.put.new.self c.put.result None (same_roomless c.in-Ok.node fresh c.in-Ok.ensures)
-          c.put.ensures.edit;
+          edit_like c.in-Ok.node fresh (slot_in there) c.args.self.now c.put_fresh.new.self c.put_fresh.result None (same_roomless c.in-Ok.node fresh c.in-Ok.ensures)
+          c.put_fresh.ensures.edit;
     }
 
 pub returns-clause-tree : goal.returns-clause-tree
-returns-clause-tree c = c.put.ensures.edit.tree
+returns-clause-tree c = c.put_fresh.ensures.edit.tree

@@ -9,7 +9,7 @@ use Rattle.template_tree.proofs.Trees.NewPrograms.{new_is, new_is_tree}
 use Rattle.template_tree.proofs.tree.Tree.new.Goals as goal
 
 -- the items are those of the new program
-items_are : (c : goal.In_ok-items) → roomless (forest c.in_ok-items.items.items) ≡ new_items
+items_are : (c : goal.After-new-2) → roomless (forest c.in_ok-items.items.items) ≡ new_items
 items_are c =
     new_is c.in_ok-items.items.items c.in_ok-two.field-0.items
     record {

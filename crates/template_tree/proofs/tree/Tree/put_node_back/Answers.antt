@@ -2,7 +2,7 @@ use Rattle.std.specs.Prelude.{refl, [], ◌∷◌}
 use Rattle.std.proofs.Common.{ap, sym}
 use Rattle.template_tree.specs.Programs.PlainTree.{Forest, PlainTree, roomless_node, roomless_tree}
 use Rattle.template_tree.proofs.Room.RoomlessEdits.{with_edit_is, nowhere_is, stays}
-use Rattle.template_tree.proofs.tree.Tree.restore_node.Goals as goal
+use Rattle.template_tree.proofs.tree.Tree.put_node_back.Goals as goal
 
 pub returns-in_default : goal.returns-in_default
 returns-in_default c =

@@ -11,7 +11,7 @@ use Rattle.template_tree.specs.Private.Exchange.{MayReplace}
 use Rattle.template_tree.proofs.Edits.Procedures.{way_where}
 use Rattle.template_tree.proofs.Trees.Counts.{counted_below}
 use Rattle.template_tree.proofs.Puts.PutEdits.{come, exchanged_is, put_change, of_there}
-use Rattle.template_tree.proofs.tree.Tree.exchange.Goals as goal
+use Rattle.template_tree.proofs.tree.Tree.exchange_nodes.Goals as goal
 
 -- the old node stands at the path
 there : (c : goal.After-of_node) → node_at c.args.self.now.items c.args.path.now.items ≡ Some c.replace-old.result

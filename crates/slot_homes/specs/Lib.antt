@@ -1,0 +1,2 @@
+-- what is said of slots, and of the ways to them
+pub mod Said
