@@ -1,5 +1,5 @@
 -- What is said of a slot, place after place, and what is once it was put.
-use Rattle.std.specs.Prelude.{◌≡◌, refl, ℕ, zero, suc, ◌+◌, ◌-◌, ◌%◌, ◌==◌, ◌<◌, ◌≤◌, Bool, true, false, if◌then◌else◌, List, [], ◌∷◌, length, Option, Some, None, slice_get, slice_set}
+use Rattle.std.specs.Prelude.{◌≡◌, refl, ℕ, zero, suc, ◌+◌, ◌*◌, ◌-◌, ◌%◌, ◌==◌, ◌<◌, ◌≤◌, Bool, true, false, if◌then◌else◌, List, [], ◌∷◌, length, Option, Some, None, slice_get, slice_set}
 use Rattle.std.specs.Option.{option_and_then, option_or}
 use Rattle.std.proofs.Common.{ap, sym, ◌∙◌, arith, eqb-true, eq-eqb, ne_eqb}
 use Rattle.std.proofs.Math.Bool.{false≢true}
@@ -7,7 +7,7 @@ use Rattle.std.proofs.Math.Nat.{mod-lt}
 use Rattle.std.proofs.lemmas.List.{length-set}
 use Rattle.slot_homes.specs.declared.home.Home.{Home}
 use Rattle.slot_homes.specs.declared.homes.Entry.{Entry}
-use Rattle.slot_homes.specs.Said.{AreTaken, OthersStay, entry_at, home_for, home_said, home_said_from, is_free, probes}
+use Rattle.slot_homes.specs.Said.{AreTaken, OthersStay, entry_at, home_for, home_said, home_said_from, is_free, probes, stride}
 
 -- an entry is the slot's, or another one's
 pub own_home : (slot : ℕ) (entry : Entry) → entry.slot.0 ≡ slot → home_for slot (Some entry) ≡ Some entry.home
@@ -85,31 +85,31 @@ set_other (y ∷ ys) (suc i) (suc j) x other = set_other ys i j x (λ e. other (
 module _ (table : List (Option Entry)) (some : 0 < length table) (entry : Entry) (probe : ℕ) where
   -- the place, and the table then
   abbrev place : ℕ
-  place = (entry.slot.0 + probe) % length table
+  place = (entry.slot.0 + probe * stride) % length table
 
   abbrev made : List (Option Entry)
   made = slice_set table place (Some entry)
 
   -- the place after the slot's first, by this number, in the one table and in the other
-  at : (j : ℕ) → (entry.slot.0 + j) % length made ≡ (entry.slot.0 + j) % length table
-  at j = ap (λ n. (entry.slot.0 + j) % n) (length-set table place (Some entry))
+  at : (j : ℕ) → (entry.slot.0 + j * stride) % length made ≡ (entry.slot.0 + j * stride) % length table
+  at j = ap (λ n. (entry.slot.0 + j * stride) % n) (length-set table place (Some entry))
 
   -- there stands the entry, or what stood there before
-  stands : (j : ℕ) → home_for entry.slot.0 (entry_at table entry.slot.0 j) ≡ None → (b : Bool) → ((entry.slot.0 + j) % length table == place) ≡ b
+  stands : (j : ℕ) → home_for entry.slot.0 (entry_at table entry.slot.0 j) ≡ None → (b : Bool) → ((entry.slot.0 + j * stride) % length table == place) ≡ b
       → home_for entry.slot.0 (entry_at made entry.slot.0 j) ≡ (if b then Some entry.home else None)
   stands j none true same =
-      let is : (entry.slot.0 + j) % length made ≡ place = at j ∙ eqb-true ((entry.slot.0 + j) % length table) place same in
+      let is : (entry.slot.0 + j * stride) % length made ≡ place = at j ∙ eqb-true ((entry.slot.0 + j * stride) % length table) place same in
       ap (λ n. home_for entry.slot.0 (option_and_then (λ e. e) (slice_get made n))) is
-      ∙ ap (λ o. home_for entry.slot.0 (option_and_then (λ e. e) o)) (set_same table place (Some entry) (mod-lt (entry.slot.0 + probe) some))
+      ∙ ap (λ o. home_for entry.slot.0 (option_and_then (λ e. e) o)) (set_same table place (Some entry) (mod-lt (entry.slot.0 + probe * stride) some))
       ∙ own_home entry.slot.0 entry refl
   stands j none false other =
       ap (λ n. home_for entry.slot.0 (option_and_then (λ e. e) (slice_get made n))) (at j)
       ∙ ap (λ o. home_for entry.slot.0 (option_and_then (λ e. e) o))
-      (set_other table place ((entry.slot.0 + j) % length table) (Some entry) apart)
+      (set_other table place ((entry.slot.0 + j * stride) % length table) (Some entry) apart)
       ∙ none
     where
-      apart : (entry.slot.0 + j) % length table ≡ place → ⊥
-      apart e = absurd (false≢true (sym other ∙ eq-eqb ((entry.slot.0 + j) % length table) place e))
+      apart : (entry.slot.0 + j * stride) % length table ≡ place → ⊥
+      apart e = absurd (false≢true (sym other ∙ eq-eqb ((entry.slot.0 + j * stride) % length table) place e))
 
   module _ (taken : AreTaken table entry.slot.0 probe) where
     others : (j : ℕ) → j < probe → home_for entry.slot.0 (entry_at table entry.slot.0 j) ≡ None
@@ -119,20 +119,20 @@ module _ (table : List (Option Entry)) (some : 0 < length table) (entry : Entry)
     said_to : (d j : ℕ) → j + d ≡ probe → probe < probes → home_said_from made entry.slot.0 j (probes - j) ≡ Some entry.home
     said_to zero j e within = here
       where
-        same : (entry.slot.0 + j) % length made ≡ place
-        same = at j ∙ ap (λ n. (entry.slot.0 + n) % length table) (omega (arith, e))
+        same : (entry.slot.0 + j * stride) % length made ≡ place
+        same = at j ∙ ap (λ n. (entry.slot.0 + n * stride) % length table) (omega (arith, e))
 
         here : home_said_from made entry.slot.0 j (probes - j) ≡ Some entry.home
         here =
             sym (next made entry.slot.0 j (omega (arith, e, within)))
             ∙ ap (λ o. option_or o (home_said_from made entry.slot.0 (j + 1) (probes - (j + 1))))
             (ap (λ n. home_for entry.slot.0 (option_and_then (λ e. e) (slice_get made n))) same
-            ∙ ap (λ o. home_for entry.slot.0 (option_and_then (λ e. e) o)) (set_same table place (Some entry) (mod-lt (entry.slot.0 + probe) some))
+            ∙ ap (λ o. home_for entry.slot.0 (option_and_then (λ e. e) o)) (set_same table place (Some entry) (mod-lt (entry.slot.0 + probe * stride) some))
             ∙ own_home entry.slot.0 entry refl)
     said_to (suc d) j e within =
-        by ((entry.slot.0 + j) % length table == place) refl (said_to d (j + 1) (omega (arith, e)) within)
+        by ((entry.slot.0 + j * stride) % length table == place) refl (said_to d (j + 1) (omega (arith, e)) within)
       where
-        by : (b : Bool) → ((entry.slot.0 + j) % length table == place) ≡ b
+        by : (b : Bool) → ((entry.slot.0 + j * stride) % length table == place) ≡ b
             → home_said_from made entry.slot.0 (j + 1) (probes - (j + 1)) ≡ Some entry.home
             → home_said_from made entry.slot.0 j (probes - j) ≡ Some entry.home
         by true is further =
@@ -152,25 +152,25 @@ module _ (table : List (Option Entry)) (some : 0 < length table) (entry : Entry)
   -- of another slot, of which nothing was said in the place that was set, the same is said as before
   module _ (other : ℕ) (apart : other ≡ entry.slot.0 → ⊥) (none : home_for other (entry_at table entry.slot.0 probe) ≡ None) where
     same_at : (j : ℕ) → home_for other (entry_at made other j) ≡ home_for other (entry_at table other j)
-    same_at j = by ((other + j) % length table == place) refl
+    same_at j = by ((other + j * stride) % length table == place) refl
       where
-        where_it_was : (other + j) % length made ≡ (other + j) % length table
-        where_it_was = ap (λ n. (other + j) % n) (length-set table place (Some entry))
+        where_it_was : (other + j * stride) % length made ≡ (other + j * stride) % length table
+        where_it_was = ap (λ n. (other + j * stride) % n) (length-set table place (Some entry))
 
-        by : (b : Bool) → ((other + j) % length table == place) ≡ b → home_for other (entry_at made other j) ≡ home_for other (entry_at table other j)
+        by : (b : Bool) → ((other + j * stride) % length table == place) ≡ b → home_for other (entry_at made other j) ≡ home_for other (entry_at table other j)
         by true same =
-            let is : (other + j) % length table ≡ place = eqb-true ((other + j) % length table) place same in
+            let is : (other + j * stride) % length table ≡ place = eqb-true ((other + j * stride) % length table) place same in
             ap (λ n. home_for other (option_and_then (λ e. e) (slice_get made n))) (where_it_was ∙ is)
-            ∙ ap (λ o. home_for other (option_and_then (λ e. e) o)) (set_same table place (Some entry) (mod-lt (entry.slot.0 + probe) some))
+            ∙ ap (λ o. home_for other (option_and_then (λ e. e) o)) (set_same table place (Some entry) (mod-lt (entry.slot.0 + probe * stride) some))
             ∙ other_home other entry (λ e. apart (sym e))
             ∙ sym none
             ∙ ap (λ n. home_for other (option_and_then (λ e. e) (slice_get table n))) (sym is)
         by false elsewhere =
             ap (λ n. home_for other (option_and_then (λ e. e) (slice_get made n))) where_it_was
-            ∙ ap (λ o. home_for other (option_and_then (λ e. e) o)) (set_other table place ((other + j) % length table) (Some entry) away)
+            ∙ ap (λ o. home_for other (option_and_then (λ e. e) o)) (set_other table place ((other + j * stride) % length table) (Some entry) away)
           where
-            away : (other + j) % length table ≡ place → ⊥
-            away e = false≢true (sym elsewhere ∙ eq-eqb ((other + j) % length table) place e)
+            away : (other + j * stride) % length table ≡ place → ⊥
+            away e = false≢true (sym elsewhere ∙ eq-eqb ((other + j * stride) % length table) place e)
 
     same_from : (left j : ℕ) → home_said_from made other j left ≡ home_said_from table other j left
     same_from zero j = refl
@@ -185,22 +185,22 @@ module _ (table : List (Option Entry)) (some : 0 < length table) (entry : Entry)
 module _ (table : List (Option Entry)) (entry : Entry) (probe : ℕ) where
   -- nothing is said of another in the place
   stay : (table : List (Option Entry)) (other : ℕ) → (other ≡ entry.slot.0 → ⊥) → home_for other (entry_at table entry.slot.0 probe) ≡ None
-      → home_said (slice_set table ((entry.slot.0 + probe) % length table) (Some entry)) other ≡ home_said table other
+      → home_said (slice_set table ((entry.slot.0 + probe * stride) % length table) (Some entry)) other ≡ home_said table other
   stay [] other apart none = refl
   stay (x ∷ xs) other apart none = other_said (x ∷ xs) (omega arith) entry probe other apart none
 
   pub all_stay : is_free entry.slot.0 (entry_at table entry.slot.0 probe) ≡ true
-      → OthersStay table (slice_set table ((entry.slot.0 + probe) % length table) (Some entry)) entry.slot.0
+      → OthersStay table (slice_set table ((entry.slot.0 + probe * stride) % length table) (Some entry)) entry.slot.0
   all_stay free other apart kept =
       stay table other apart (free_none entry.slot.0 other (entry_at table entry.slot.0 probe) apart free)
 
 -- and all but one stay where none was
 pub but_one_stays : (table : List (Option Entry)) (entry : Entry) → AreTaken table entry.slot.0 probes
-    → OthersStay table (slice_set table ((entry.slot.0 + 0) % length table) (Some entry)) entry.slot.0
+    → OthersStay table (slice_set table ((entry.slot.0 + 0 * stride) % length table) (Some entry)) entry.slot.0
 but_one_stays table entry taken other apart kept = by (is_free other (entry_at table entry.slot.0 0)) refl
   where
     by : (b : Bool) → is_free other (entry_at table entry.slot.0 0) ≡ b
-        → home_said (slice_set table ((entry.slot.0 + 0) % length table) (Some entry)) other ≡ home_said table other
+        → home_said (slice_set table ((entry.slot.0 + 0 * stride) % length table) (Some entry)) other ≡ home_said table other
     by true its = absurd (kept (taken, its))
     by false another =
         stay table entry 0 table other apart (taken_none other (entry_at table entry.slot.0 0) another)

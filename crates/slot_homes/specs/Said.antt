@@ -1,16 +1,20 @@
 -- What is said of slots in a table of places, and the way that follows from it.
-use Rattle.std.specs.Prelude.{◌≡◌, ℕ, zero, suc, ◌+◌, ◌%◌, ◌==◌, ◌<◌, Bool, true, false, if◌then◌else◌, List, ◌∷◌, length, Option, Some, None, slice_get}
+use Rattle.std.specs.Prelude.{◌≡◌, ℕ, zero, suc, ◌+◌, ◌*◌, ◌%◌, ◌==◌, ◌<◌, Bool, true, false, if◌then◌else◌, List, ◌∷◌, length, Option, Some, None, slice_get}
 use Rattle.std.specs.Option.{option_and_then, option_or}
 use Rattle.plcs_base.specs.declared.place.Slot.{Slot}
 use Rattle.slot_homes.specs.declared.home.Home.{Home}
 use Rattle.slot_homes.specs.declared.homes.Entry.{Entry}
-use Rattle.slot_homes.specs.declared.homes.TheConstants.{MOST_PLACES, PROBES}
+use Rattle.slot_homes.specs.declared.homes.TheConstants.{MOST_PLACES, PROBES, STRIDE}
 use Rattle.slot_homes.specs.declared.way.WayStep.{WayStep}
 use Rattle.slot_homes.specs.declared.way.TheConstants.{LONGEST_WAY}
 
 -- in how many places of a table what is said of a slot may stand
 abbrev pub probes : ℕ
 probes = PROBES
+
+-- how many places behind one of these the next one is
+abbrev pub stride : ℕ
+stride = STRIDE
 
 -- how many places a table may have
 abbrev pub most_places : ℕ
@@ -22,7 +26,7 @@ longest_way = LONGEST_WAY
 
 -- what stands in a place of the table, of those where what is said of the slot may stand
 abbrev pub entry_at : List (Option Entry) → (slot probe : ℕ) → Option Entry
-entry_at table slot probe = option_and_then (λ entry. entry) (slice_get table ((slot + probe) % length table))
+entry_at table slot probe = option_and_then (λ entry. entry) (slice_get table ((slot + probe * stride) % length table))
 
 -- what an entry says of the slot, if it is the slot's
 abbrev pub home_for : (slot : ℕ) → Option Entry → Option Home

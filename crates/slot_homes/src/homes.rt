@@ -1,6 +1,6 @@
 //! What is said of many slots, found by slot.
 ghost use Rattle.std.specs.Prelude.{◌≡◌, ◌+◌, ◌*◌, ◌%◌, ◌<◌, ◌≤◌, ◌↔◌, IfNone, IfSome, IsTrue, OnErr, OnOk, Some, [], length, min, slice_set, true};
-ghost use Rattle.slot_homes.specs.Said.{AreTaken, NothingSaid, OthersStay, entry_at, home_for, home_said, is_free, most_places, probes};
+ghost use Rattle.slot_homes.specs.Said.{AreTaken, NothingSaid, OthersStay, entry_at, home_for, home_said, is_free, most_places, probes, stride};
 
 use crate::home::Home;
 use plcs_base::{OutOfMemory, Slot};
@@ -12,6 +12,11 @@ pub const MOST_SHIFTS: u32 = 64;
 
 /// In how many places what is said of a slot may stand.
 const PROBES: u32 = 8;
+
+/// How many places behind one of these the next one is. It is a prime, so that they are others in a table of any size,
+/// and eight of them go once round the largest: slots that were drawn one after the other don't stand in each other's
+/// way, however many there were before.
+const STRIDE: usize = 8_191;
 
 /// How many places a table has at least.
 const LEAST_PLACES: usize = 64;
@@ -190,7 +195,7 @@ impl Homes {
 
     /// Puts what is said of a slot into the place of this number among those where it may stand, if there are places.
     fn set(&mut self, slot: Slot, probe: u32, home: Home)
-        ensures { self.new ≡ slice_set self.old ((slot.0 + probe) % length self.old)
+        ensures { self.new ≡ slice_set self.old ((slot.0 + probe * stride) % length self.old)
             (Some (record { slot = slot; home = home })) }
     {
         let places = self.table.len();
@@ -204,8 +209,8 @@ impl Homes {
 /// The place of this number among those where what is said of the slot may stand, in a table of so many.
 fn place_of(slot: Slot, probe: u32, places: usize) -> usize
     requires some { 0 < places }
-    ensures place { result ≡ (slot.0 + probe) % places }
+    ensures place { result ≡ (slot.0 + probe * stride) % places }
     ensures within { result < places }
 {
-    (slot.0 as usize + probe as usize) % places
+    (slot.0 as usize + probe as usize * STRIDE) % places
 }
