@@ -25,7 +25,7 @@ pub mod TakenNumbers
 pub mod TakenCells
 pub mod TakenRows
 pub mod PaintedTerminal
--- `node_line.rt`: the line of a place of a run, looked for item by item
+-- `place_line`: the line of a place of a run, found by the path of its slot
 pub mod PlaceLines
 -- `run_line` and `stop_node`: what is looked for in a tree without the room of its lists
 pub mod RoomlessPlaces

@@ -1,16 +1,13 @@
 //! Lines of the screen, told by their nodes, and the one on which a place of a run is shown.
 
-ghost use Rattle.std.specs.Prelude.{◌≡◌, ◌≤◌, slice_get};
-ghost use Rattle.template_tree.specs.Programs.Limit.{most_slots};
-ghost use Rattle.template_tree.specs.Programs.PlainTree.{Forest, nodes};
-ghost use Rattle.template_tree.specs.Programs.Slots.{count};
+ghost use Rattle.std.specs.Prelude.{◌≡◌};
 ghost use Rattle.template_tree.specs.Programs.Tree.{IsTree};
 ghost use Rattle.screen_window.specs.NodeLine.{is_line, is_outer, is_procedure, place_line, point_line, same_line_kind};
-ghost use Rattle.screen_window.specs.Private.ItemLine.{item_line};
+ghost use Rattle.screen_window.specs.Private.PathLine.{line_below, line_on_path};
 
 use plcs_base::{Place, Point};
 use plcs_grammar::{NodeKind, Sort};
-use template_tree::{Node, Tree, path_of_item};
+use template_tree::{Node, Path, Tree, path_of_item};
 use unparse_layout::{Line, LineKind};
 
 /// A line of the screen, told as one of the lines of the node in a slot.
@@ -41,69 +38,42 @@ fn same_kind(one: LineKind, other: LineKind) -> bool
     }
 }
 
-/// The line on which a place of a run is shown, or `None` where its slot isn't live. It takes time in
-/// proportion to the number of slots.
+/// The line on which a place of a run is shown, or `None` where its slot isn't live. Where the node of the slot
+/// stands where the tree has noted it, or near there, it takes time by the length of its path alone; else, as
+/// wherever the slot isn't live, in proportion to the number of slots.
 pub fn place_line(tree: &Tree, place: Place) -> Option<NodeLine>
     requires { IsTree tree.now }
     ensures { result ≡ place_line place.slot.0 place.point.0 tree.now.items }
 {
-    for k in 0..tree.procedures() + 1 {
-        if let Some(line) = line_of_item(tree, k, place) {
-            return Some(line);
-        }
-    }
-    None
+    let path = tree.path_of(place.slot)?;
+    line_on_path(tree, &path, place.point)
 }
 
-/// The line on which a place of a run is shown that stands in an item of the program.
-fn line_of_item(tree: &Tree, k: u32, place: Place) -> Option<NodeLine>
+/// The line on which a point of a run is shown in the node at the path: that of the first elided node above it
+/// on the path, or else its own.
+fn line_on_path(tree: &Tree, path: &Path, point: Point) -> Option<NodeLine>
     requires { IsTree tree.now }
-    ensures { result ≡ item_line place.slot.0 place.point.0 (slice_get (nodes tree.now.items) k) }
+    ensures { result ≡ line_on_path point.0 tree.now.items path.now.items }
 {
-    line_at(tree.node(&path_of_item(k))?, place)
+    let (k, rest) = path.split_first()?;
+    line_below(tree.node(&path_of_item(*k))?, rest, point)
 }
 
-/// The line on which a place of a run is shown that is the node, or stands inside it.
-#[cycle(line)]
-fn line_at(node: &Node, place: Place) -> Option<NodeLine>
-    requires { count node.now.inner ≤ most_slots }
-    ensures { result ≡ place_line place.slot.0 place.point.0 (Forest.cons node.now.label node.now.inner Forest.nil) }
+/// The line on which a point of a run is shown in the node at the path below this node: that of the first elided
+/// node above it, from this one on, or else its own.
+fn line_below(node: &Node, path: &[u32], point: Point) -> Option<NodeLine>
+    ensures { result ≡ line_below point.0 node.now path.now }
 {
-    if node.slot().0 == place.slot.0 {
-        return Some(point_line(node, place.point));
-    }
-    let line = line_inside(node, place)?;
-    Some(if node.is_elided() {
-        NodeLine {
+    let Some((k, rest)) = path.split_first() else {
+        return Some(point_line(node, point));
+    };
+    if node.is_elided() {
+        return Some(NodeLine {
             slot: node.slot().0,
             kind: LineKind::Elision,
-        }
-    } else {
-        line
-    })
-}
-
-/// The line on which a place of a run inside a node is shown, as if the node weren't elided.
-#[cycle(line)]
-fn line_inside(node: &Node, place: Place) -> Option<NodeLine>
-    requires { count node.now.inner ≤ most_slots }
-    ensures { result ≡ place_line place.slot.0 place.point.0 node.now.inner }
-{
-    for k in 0..node.children() {
-        if let Some(line) = line_of_child(node, k, place) {
-            return Some(line);
-        }
+        });
     }
-    None
-}
-
-/// The line on which a place of a run is shown that stands in the node of this number inside a node.
-#[cycle(line)]
-fn line_of_child(node: &Node, k: u32, place: Place) -> Option<NodeLine>
-    requires { count node.now.inner ≤ most_slots }
-    ensures { result ≡ item_line place.slot.0 place.point.0 (slice_get (nodes node.now.inner) k) }
-{
-    line_at(node.child(k)?, place)
+    line_below(node.child(*k)?, rest, point)
 }
 
 /// The line of a node on which a point of a run is shown.

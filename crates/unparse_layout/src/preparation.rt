@@ -38,7 +38,7 @@ impl<W: Work> Layout<W> {
             What::Part(_) => {}
             What::Node => return self.root.putting(alloc, tree, change.slot),
             What::Added => return self.root.adding(alloc, tree, change.slot),
-            What::Dropped => return Ok(self.root.dropping(change.slot)),
+            What::Dropped => return Ok(self.root.dropping(tree, change)),
         }
         // A layout keeps no parts.
         Ok(LayoutEdit {
@@ -97,17 +97,20 @@ impl NodeLayout {
         })
     }
 
-    /// Prepares, for the layout inside this node, the edit that an item dropped from the tree in the slot asks for. Its
-    /// path is found in the layout, since the tree doesn't have it any more.
-    fn dropping(&self, slot: Slot) -> LayoutEdit
-        requires before { (after : PlainTree) × IsTree after × IsBeforeChange What.Dropped slot.0 self.now.inner after }
-        ensures after { (after : PlainTree) → IsTree after → IsBeforeChange What.Dropped slot.0 self.now.inner after
+    /// Prepares, for the layout inside this node, the edit that an item dropped from the tree asks for. Its path is
+    /// found in the layout, since the tree doesn't have it any more.
+    fn dropping(&self, tree: &Tree, change: &Change) -> LayoutEdit
+        requires tree { IsTree tree.now }
+        requires before { (after : PlainTree) × IsTree after
+            × IsBeforeChange What.Dropped change.now.slot.0 self.now.inner after }
+        ensures after { (after : PlainTree) → IsTree after
+            → IsBeforeChange What.Dropped change.now.slot.0 self.now.inner after
             → IsLayoutOf (layout_after result self.now.inner) after }
         ensures there { MayMendAt result.mend result.path self.now.inner }
     {
         slot_edit_is_path_edit();
         room_is_not_shown();
-        let Some(path) = self.path_inside(slot) else {
+        let Some(path) = self.path_near(tree, change.procedure, change.slot) else {
             unreachable!()
         };
         LayoutEdit {
@@ -159,6 +162,41 @@ impl NodeLayout {
 
 impl NodeLayout {
     /// The path of the node in the slot in the layout inside this node, or `None` where the slot doesn't stand there.
+    /// It is looked for in the item of the procedure in the tree first, and where that doesn't have it, in all.
+    fn path_near(&self, tree: &Tree, procedure: Slot, slot: Slot) -> Option<Path>
+        requires tree { IsTree tree.now }
+        requires shallow { bone_depth self.now.inner ≤ deepest_path }
+        requires few { bone_count self.now.inner ≤ most_slots }
+        ensures none { IfNone result (bone_times slot.0 self.now.inner ≡ 0) }
+        ensures path { IfSome result (λ path. option_map (λ item. item.bone.slot) (layout_at self.now.inner path.items)
+            ≡ Some slot.0) }
+    {
+        if procedure.0 != slot.0 {
+            if let Some(path) = self.path_in(item_number(tree, procedure), slot) {
+                return Some(path);
+            }
+        }
+        self.path_inside(slot)
+    }
+
+    /// The path of the node in the slot in the layout inside this node, if the slot stands inside the item of this
+    /// number there.
+    fn path_in(&self, k: u32, slot: Slot) -> Option<Path>
+        requires shallow { bone_depth self.now.inner ≤ deepest_path }
+        requires few { bone_count self.now.inner ≤ most_slots }
+        ensures { IfSome result (λ path. option_map (λ item. item.bone.slot) (layout_at self.now.inner path.items)
+            ≡ Some slot.0) }
+    {
+        let Some(item) = self.inner.get(k as usize) else {
+            return None;
+        };
+        let Some(path) = item.path_inside(slot) else {
+            return None;
+        };
+        Some(with_first(k, path))
+    }
+
+    /// The path of the node in the slot in the layout inside this node, or `None` where the slot doesn't stand there.
     fn path_inside(&self, slot: Slot) -> Option<Path>
         requires shallow { bone_depth self.now.inner ≤ deepest_path }
         requires few { bone_count self.now.inner ≤ most_slots }
@@ -178,6 +216,19 @@ impl NodeLayout {
             k += 1;
         }
         None
+    }
+}
+
+/// The number of the item of the program in which the slot stands, or 0 where it isn't live.
+fn item_number(tree: &Tree, slot: Slot) -> u32
+    requires { IsTree tree.now }
+{
+    let Some(path) = tree.path_of(slot) else {
+        return 0;
+    };
+    match path.split_first() {
+        Some((k, _)) => *k,
+        None => 0,
     }
 }
 

@@ -58,6 +58,7 @@ returns-in-Added-clause-ready g c =
 pub dropping-requires : goal.dropping-requires
 dropping-requires g c =
     record {
+      tree = c.requires.tree;
       before = (
         c.args.tree.now,
         c.requires.tree,
