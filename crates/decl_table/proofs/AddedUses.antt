@@ -1,18 +1,21 @@
 -- What is noted under names, one after the other.
-use Rattle.std.proofs.Common.{◌≡◌, ℕ, ◌+◌, ◌<◌, suc, Bool, true, false, cond, List, [], ◌∷◌, ◌++◌, length, drop, get_or, Option, Some, refl, sym, ap, ◌∙◌, add-one, drop-cons}
+use Rattle.std.proofs.Common.{◌≡◌, ℕ, ◌+◌, ◌<◌, zero, suc, Bool, true, false, cond, List, [], ◌∷◌, ◌++◌, length, drop, get_or, Option, Some, None, slice_get, refl, sym, ap, subst, ◌∙◌, add-one, drop-cons, arith}
 use Rattle.std.specs.Prelude.{◌&&◌, ◌||◌, bytes_eq, unwrap_or, Result, Ok, Err, OnOk}
 use Rattle.std.specs.List.{list_any}
 use Rattle.std.specs.Map.{lookup}
+use Rattle.std.specs.Option.{option_flatten}
 use Rattle.std.specs.Ordering.{eq_by_cmp}
+use Rattle.std.proofs.lemmas.Option.{none-some}
+use Rattle.plcs_base.specs.ListLeft.{left_from}
 use Rattle.std.proofs.lemmas.List.Folds.{list_any-append}
 use Rattle.std.proofs.lemmas.Slice.Eq.{bytes_eq-Decides}
 use Rattle.plcs_base.specs.Mark.{phrase_cmp}
 use Rattle.plcs_base.specs.declared.place.PhraseAt.{PhraseAt}
-use Rattle.plcs_grammar.specs.PlainPhrase.{PlainPhrase}
-use Rattle.template_tree.specs.Checks.Mention.{mention, mentioned, mentions, part_mentions, phrase_at}
-use Rattle.template_tree.specs.Programs.PlainTree.{Forest, PlainNode, forest}
+use Rattle.template_tree.specs.Checks.Mention.{phrase_at}
+use Rattle.decl_table.specs.Names.{NameForest}
 use Rattle.decl_table.specs.PlainDecls.{PlainUses, mentions_of}
-use Rattle.decl_table.specs.Private.UsesView.{Adds, AddsNames, is_among}
+use Rattle.decl_table.specs.Private.PlainNameNode.{HaveFewParts, PlainNameNode, kept_mention, kept_mentions, kept_part_mentions, name_forest, node_names}
+use Rattle.decl_table.specs.Private.UsesView.{Adds, AddsUnderNames, is_among}
 
 -- what follows where it is Ok
 pub then_ok : {T E : Type 0} (r : Result T E) {P Q : Type 0} → (P → Q) → OnOk r P → OnOk r Q
@@ -69,14 +72,14 @@ of_names-next names i next place inside is name at =
     ∙ of_names-append (next ∷ []) (drop (i + 1) names) place name at
 
 -- whether the place is that of a phrase in what stands in a part, in parts, in nodes
-abbrev pub of_place : PhraseAt → Option PlainPhrase → Test
-of_place place phrase name at = is_among at (mention name place phrase)
+abbrev pub of_place : PhraseAt → Option (List (List ℕ)) → Test
+of_place place names name at = is_among at (kept_mention name place names)
 
-abbrev pub of_parts : (slot part : ℕ) → List (Option PlainPhrase) → Test
-of_parts slot part parts name at = is_among at (part_mentions name slot part parts)
+abbrev pub of_parts : (slot part : ℕ) → List (Option (List (List ℕ))) → Test
+of_parts slot part parts name at = is_among at (kept_part_mentions name slot part parts)
 
-abbrev pub of_nodes : Forest → Test
-of_nodes nodes name at = is_among at (mentions name nodes)
+abbrev pub of_nodes : NameForest → Test
+of_nodes nodes name at = is_among at (kept_mentions name nodes)
 
 -- ---- nothing, and one part after the other
 
@@ -132,7 +135,7 @@ same_name xs ys = by (bytes_eq xs ys) (bytes_eq ys xs) refl refl
 pub noted : (key : List ℕ) (place : PhraseAt) (places : List PhraseAt) (old new : PlainUses)
     → mentions_of key old ≡ places
     → ((name : List ℕ) → lookup (bytes_eq name) new ≡ cond (bytes_eq key name) (Some (places ++ (place ∷ []))) (lookup (bytes_eq name) old))
-    → AddsNames (key ∷ []) place old new
+    → AddsUnderNames (key ∷ []) place old new
 noted key place places old new held is name at =
     ap (λ o. is_among at (unwrap_or o [])) (is name)
     ∙ by (bytes_eq key name) refl
@@ -159,9 +162,9 @@ noted key place places old new held is name at =
 -- ---- what a part adds
 
 -- the names of the phrase in it
-pub of_phrase : (place : PhraseAt) (phrase : PlainPhrase) (name : List ℕ) (at : PhraseAt)
-    → of_place place (Some phrase) name at ≡ of_names (mentioned phrase) place name at
-of_phrase place phrase name at = by (list_any (bytes_eq name) (mentioned phrase))
+pub of_phrase : (place : PhraseAt) (names : List (List ℕ)) (name : List ℕ) (at : PhraseAt)
+    → of_place place (Some names) name at ≡ of_names names place name at
+of_phrase place names name at = by (list_any (bytes_eq name) names)
   where
     plain : (a : Bool) → (a || false) ≡ a
     plain true = refl
@@ -172,37 +175,68 @@ of_phrase place phrase name at = by (list_any (bytes_eq name) (mentioned phrase)
     by false = refl
 
 -- the parts from one on
-pub of_parts-next : (slot part : ℕ) (parts : List (Option PlainPhrase)) (place : Option PlainPhrase) (rest : List (Option PlainPhrase))
+pub of_parts-next : (slot part : ℕ) (parts : List (Option (List (List ℕ)))) (place : Option (List (List ℕ)))
+    (rest : List (Option (List (List ℕ))))
     → parts ≡ place ∷ rest → (name : List ℕ) (at : PhraseAt)
     → of_parts slot part parts name at ≡ (of_place (phrase_at slot part) place name at || of_parts slot (part + 1) rest name at)
 of_parts-next slot part parts place rest is name at =
     ap (λ all. of_parts slot part all name at) is
-    ∙ list_any-append (eq_by_cmp phrase_cmp at) (mention name (phrase_at slot part) place) (part_mentions name slot (part + 1) rest)
+    ∙ list_any-append (eq_by_cmp phrase_cmp at) (kept_mention name (phrase_at slot part) place) (kept_part_mentions name slot (part + 1) rest)
+
+-- one that is there
+pub there_is : {X : Type 0} (xs : List X) (k : ℕ) → k < length xs → (x : X) × (slice_get xs k ≡ Some x)
+there_is [] k within = absurd (omega (arith, within))
+there_is (x ∷ xs) zero within = (x, refl)
+there_is (x ∷ xs) (suc k) within = there_is xs k (omega (arith, within))
+
+-- those that are left are the one of the number and those behind it
+pub of_parts-turn : (slot part : ℕ) (parts : List (Option (List (List ℕ)))) → part < length parts → (name : List ℕ) (at : PhraseAt)
+    → of_parts slot part (drop part parts) name at
+    ≡ (of_place (phrase_at slot part) (option_flatten (slice_get parts part)) name at || of_parts slot (part + 1) (drop (part + 1) parts) name at)
+of_parts-turn slot part parts within name at =
+    let found = there_is parts part within in
+    of_parts-next slot part (drop part parts) found.0 (drop (part + 1) parts) (left_from parts part found.0 found.1) name at
+    ∙ ap (λ o. of_place (phrase_at slot part) (option_flatten o) name at || of_parts slot (part + 1) (drop (part + 1) parts) name at) (sym found.1)
 
 -- ---- what a node adds
 
 -- its parts, what stands inside it, and the nodes behind it
-pub of_nodes-next : (nodes : Forest) (node : PlainNode) (rest : Forest) → nodes ≡ Forest.cons node.label node.inner rest
+pub of_nodes-next : (nodes : NameForest) (node : PlainNameNode) (rest : NameForest) → nodes ≡ NameForest.cons node.label node.inner rest
     → (name : List ℕ) (at : PhraseAt)
     → of_nodes nodes name at
     ≡ (of_parts node.label.slot 0 node.label.parts name at || (of_nodes node.inner name at || of_nodes rest name at))
 of_nodes-next nodes node rest is name at =
     ap (λ all. of_nodes all name at) is
-    ∙ list_any-append (eq_by_cmp phrase_cmp at) (part_mentions name node.label.slot 0 node.label.parts) (mentions name node.inner ++ mentions name rest)
+    ∙ list_any-append (eq_by_cmp phrase_cmp at) (kept_part_mentions name node.label.slot 0 node.label.parts)
+    (kept_mentions name node.inner ++ kept_mentions name rest)
     ∙ ap (λ b. of_parts node.label.slot 0 node.label.parts name at || b)
-    (list_any-append (eq_by_cmp phrase_cmp at) (mentions name node.inner) (mentions name rest))
+    (list_any-append (eq_by_cmp phrase_cmp at) (kept_mentions name node.inner) (kept_mentions name rest))
 
 -- a node alone adds its parts and what stands inside it
-pub of_node : (node : PlainNode) (name : List ℕ) (at : PhraseAt)
-    → of_nodes (forest (node ∷ [])) name at ≡ (of_parts node.label.slot 0 node.label.parts name at || of_nodes node.inner name at)
+pub of_node : (node : PlainNameNode) (name : List ℕ) (at : PhraseAt)
+    → of_nodes (node_names node) name at ≡ (of_parts node.label.slot 0 node.label.parts name at || of_nodes node.inner name at)
 of_node node name at =
-    of_nodes-next (forest (node ∷ [])) node Forest.nil refl name at
+    of_nodes-next (node_names node) node NameForest.nil refl name at
     ∙ ap (λ b. of_parts node.label.slot 0 node.label.parts name at || b) (sym (or_false (of_nodes node.inner name at)))
 
 -- nodes add the first and the others
-pub of_nodes-first : (nodes : Forest) (node : PlainNode) (rest : Forest) → nodes ≡ Forest.cons node.label node.inner rest
-    → (name : List ℕ) (at : PhraseAt) → of_nodes nodes name at ≡ (of_nodes (forest (node ∷ [])) name at || of_nodes rest name at)
+pub of_nodes-first : (nodes : NameForest) (node : PlainNameNode) (rest : NameForest) → nodes ≡ NameForest.cons node.label node.inner rest
+    → (name : List ℕ) (at : PhraseAt) → of_nodes nodes name at ≡ (of_nodes (node_names node) name at || of_nodes rest name at)
 of_nodes-first nodes node rest is name at =
     of_nodes-next nodes node rest is name at
     ∙ sym (or_assoc (of_parts node.label.slot 0 node.label.parts name at) (of_nodes node.inner name at) (of_nodes rest name at))
     ∙ ap (λ b. b || of_nodes rest name at) (sym (of_node node name at))
+
+-- ---- nodes in memory
+
+abbrev taken : PlainNameNode → Option PlainNameNode → PlainNameNode
+taken node None = node
+taken node (Some there) = there
+
+-- a node among nodes has few parts where all have
+pub few_of : (nodes : List PlainNameNode) (k : ℕ) (node : PlainNameNode) → slice_get nodes k ≡ Some node
+    → HaveFewParts (name_forest nodes) → HaveFewParts (node_names node)
+few_of [] k node there few = absurd (none-some node there)
+few_of (first ∷ nodes) zero node there few =
+    subst (λ n. HaveFewParts (node_names n)) (ap (taken node) there) (few.0, few.1, tt)
+few_of (first ∷ nodes) (suc k) node there few = few_of nodes k node there few.2

@@ -1,35 +1,36 @@
 -- What the table knows of the procedures that are taken.
-use Rattle.std.proofs.Common.{◌≡◌, ℕ, Bool, true, false, cond, List, [], ◌∷◌, Option, Some, None, option_map, refl, sym, ap, subst, ◌∙◌}
-use Rattle.std.specs.Prelude.{◌||◌, Contains, nat_eq, unwrap_or}
+use Rattle.std.proofs.Common.{◌≡◌, ℕ, Bool, true, false, cond, List, [], ◌∷◌, ◌++◌, Option, Some, None, option_map, length, refl, sym, ap, subst, ◌∙◌, arith}
+use Rattle.std.specs.Prelude.{nat_eq, unwrap_or}
 use Rattle.std.specs.FinMap.{empty, get, get-empty, get-insert}
 use Rattle.std.specs.Option.{option_or}
 use Rattle.std.specs.Ordering.{nat_cmp}
 use Rattle.std.proofs.lemmas.Cmp.{nat_cmp_total, nat_eq_equiv}
-use Rattle.std.proofs.lemmas.Map.Views.{Contains-from_any, list_any-from_Contains}
+use Rattle.std.proofs.lemmas.List.{append-nil}
 use Rattle.plcs_base.specs.declared.place.PhraseAt.{PhraseAt}
 use Rattle.template_tree.specs.Checks.Environment.{Items, Sig, Signature, items_inside, procedure_at, signature_for}
-use Rattle.template_tree.specs.Checks.Mention.{mentions}
-use Rattle.template_tree.specs.Programs.PlainTree.{Forest, PlainNode, forest}
+use Rattle.template_tree.specs.Checks.Mention.{AreUses, mentions}
+use Rattle.template_tree.specs.Programs.PlainTree.{Forest, PlainNode}
+use Rattle.template_tree.specs.Programs.Program.{AreNodes}
 use Rattle.decl_table.specs.Agreement.{IsDeclsOf}
 use Rattle.template_tree.specs.Checks.ProgramMaps.{items_in}
 use Rattle.decl_table.specs.PlainDecls.{PlainDecls, mentions_of, slot_of}
 use Rattle.decl_table.specs.Private.DeclsView.{TakesProcedure}
-use Rattle.decl_table.specs.Private.UsesView.{AreSettled, is_among}
-use Rattle.decl_table.proofs.AddedUses.{of_nodes, of_nodes-first, or_comm}
-use Rattle.plcs_base.specs.PlaceOrder.{nat_ties, places_equiv, same_place}
+use Rattle.decl_table.specs.Private.UsesView.{IsSettled}
+use Rattle.decl_table.specs.Names.{names_of}
+use Rattle.decl_table.specs.Private.PlainNameNode.{HaveFewParts, PlainNameNode, kept_mentions, kept_part_mentions, node_names}
+use Rattle.decl_table.proofs.KeptMentions.{mentions_are, names_few}
+use Rattle.plcs_base.specs.PlaceOrder.{nat_ties}
 
 -- the table has what these main and procedures say
 pub record IsRead (decls : PlainDecls) (rest : Forest) : Type 0 where
   pub items : (slot : ℕ) → items_in decls.items slot ≡ Items rest slot
   pub headings : (name : List ℕ) → slot_of name decls.headings ≡ option_map (λ (s : Signature). s.slot) (Sig rest name)
-  pub uses : (name : List ℕ) (at : PhraseAt) → is_among at (mentions_of name decls.uses) ≡ is_among at (mentions name rest)
 
 -- an empty table of none
-pub read_none : (decls : PlainDecls) → decls.items ≡ empty → decls.headings ≡ [] → decls.uses ≡ [] → IsRead decls Forest.nil
-read_none decls items headings uses = record {
+pub read_none : (decls : PlainDecls) → decls.items ≡ empty → decls.headings ≡ [] → IsRead decls Forest.nil
+read_none decls items headings = record {
   items = λ slot. ap (λ m. items_in m slot) items ∙ ap (λ o. unwrap_or o []) (get-empty nat_cmp slot);
   headings = λ name. ap (slot_of name) headings;
-  uses = λ name at. ap (λ u. is_among at (mentions_of name u)) uses;
 }
 
 -- one more before them
@@ -47,11 +48,6 @@ read_next old new node all rest is takes read =
           λ name. takes.headings name
           ∙ ap (λ o. option_or (option_map (λ (s : Signature). s.slot) (signature_for name node)) o) (read.headings name)
           ∙ of_heading (signature_for name node) (Sig rest name);
-      uses =
-          λ name at. takes.uses name at
-          ∙ ap (λ b. b || of_nodes (forest (node ∷ [])) name at) (read.uses name at)
-          ∙ or_comm (is_among at (mentions name rest)) (of_nodes (forest (node ∷ [])) name at)
-          ∙ sym (of_nodes-first (Forest.cons node.label node.inner rest) node rest refl name at);
     }
   where
     of_slot : (slot : ℕ) (here : Bool)
@@ -65,24 +61,31 @@ read_next old new node all rest is takes read =
     of_heading None other = refl
     of_heading (Some s) other = refl
 
--- all are taken, and the uses are settled
-pub read_all : (decls : PlainDecls) (items : Forest) (settled : PlainDecls) → IsRead decls items
-    → settled.items ≡ decls.items → settled.headings ≡ decls.headings → AreSettled decls.uses settled.uses → IsDeclsOf settled items
-read_all decls items settled read same_items same_headings are =
+-- the places that are settled of the names of a program are the uses of the name
+pub uses_read : (name : List ℕ) (items : Forest) (root : PlainNameNode) (settled : List PhraseAt) → root.inner ≡ names_of items
+    → root.label.parts ≡ [] → IsSettled (kept_mentions name (node_names root)) settled → AreUses name items settled
+uses_read name items root settled inner parts are =
+    let all : kept_mentions name (node_names root) ≡ mentions name items =
+    ap (λ (l : List (Option (List (List ℕ)))). kept_part_mentions name root.label.slot 0 l ++ (kept_mentions name root.inner ++ [])) parts
+    ∙ append-nil (kept_mentions name root.inner) ∙ ap (kept_mentions name) inner ∙ mentions_are name items in
+    let same = subst (λ places. IsSettled places settled) all are in
+    record { increasing = same.increasing; each = same.each }
+
+-- all are taken, the names are kept, and the uses are settled
+pub read_all : (decls : PlainDecls) (items : Forest) (made : PlainDecls) (root : PlainNameNode) → IsRead decls items
+    → made.items ≡ decls.items → made.headings ≡ decls.headings → made.names ≡ root.inner → root.inner ≡ names_of items
+    → root.label.parts ≡ [] → ((name : List ℕ) → IsSettled (kept_mentions name (node_names root)) (mentions_of name made.uses))
+    → IsDeclsOf made items
+read_all decls items made root read same_items same_headings same_names inner parts are =
     record {
       items_are = λ slot. ap (λ m. items_in m slot) same_items ∙ read.items slot;
       headings_are = λ name. ap (slot_of name) same_headings ∙ read.headings name;
-      uses_are = λ name. record {
-        increasing = (are name).increasing;
-        each = λ at. (
-          λ there. among name at (mentions name items) (sym (read.uses name at) ∙ is_there at (mentions_of name settled.uses) (mentions_of name decls.uses) ((are name).each at).0 there),
-          λ there. ((are name).each at).1 (among name at (mentions_of name decls.uses) (read.uses name at ∙ list_any-from_Contains places_equiv at (mentions name items) there)),
-        );
-      };
+      uses_are = λ name. uses_read name items root (mentions_of name made.uses) inner parts (are name);
+      names_are = same_names ∙ inner;
     }
-  where
-    among : (name : List ℕ) (at : PhraseAt) (places : List PhraseAt) → is_among at places ≡ true → Contains places at
-    among name at places there = Contains-from_any same_place at places there
 
-    is_there : (at : PhraseAt) (new old : List PhraseAt) → (Contains new at → Contains old at) → Contains new at → is_among at old ≡ true
-    is_there at new old back there = list_any-from_Contains places_equiv at old (back there)
+-- the root of the names of a program, which has no parts itself
+pub root_few : (root : PlainNameNode) (items : Forest) → AreNodes items → root.inner ≡ names_of items → root.label.parts ≡ []
+    → HaveFewParts (node_names root)
+root_few root items sound inner parts =
+    (omega (arith, ap length parts), subst HaveFewParts (sym inner) (names_few items sound), tt)

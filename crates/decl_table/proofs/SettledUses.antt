@@ -1,12 +1,14 @@
 -- The places under each name put in order, name after name.
 use Rattle.std.proofs.Common.{◌≡◌, ℕ, ◌+◌, ◌≤◌, zero, suc, Bool, true, false, cond, List, [], ◌∷◌, length, slice_get, Some, None, refl, sym, ap, subst, ◌∙◌, add-one, arith}
-use Rattle.std.specs.Prelude.{bytes_eq, unwrap_or}
+use Rattle.std.specs.Prelude.{Contains, bytes_eq, unwrap_or}
 use Rattle.std.specs.List.Sorted.{IsStrictlySortedBy}
 use Rattle.std.specs.Map.{lookup, values_of}
 use Rattle.indexmap.specs.IndexMap.{set_value_at}
 use Rattle.plcs_base.specs.declared.place.PhraseAt.{PhraseAt}
 use Rattle.decl_table.specs.PlainDecls.{PlainUses, mentions_of}
-use Rattle.decl_table.specs.Private.UsesView.{AreSettled, IsSettled}
+use Rattle.decl_table.specs.Private.UsesView.{Adds, AreSettled, IsSettled, is_among}
+use Rattle.std.proofs.lemmas.Map.Views.{Contains-from_any, list_any-from_Contains}
+use Rattle.plcs_base.specs.PlaceOrder.{places_equiv, same_place}
 
 -- the first so many of them are settled, and the others are as they were
 abbrev pub IsSettling : ℕ → (first now : PlainUses) → Type 0
@@ -47,7 +49,7 @@ settling_past k first now none same = subst (λ n. IsSettling n first now) (sym 
     past (suc k) (entry ∷ first) (other ∷ now) none (key, done, rest) = (key, done, past k first now none rest)
 
 -- the empty list is settled
-settled_nil : IsSettled [] []
+pub settled_nil : IsSettled [] []
 unfolding IsStrictlySortedBy
 settled_nil = record { increasing = tt; each = λ at. (λ there. there, λ there. there) }
 
@@ -68,3 +70,24 @@ settled_all (suc k) (entry ∷ first) (other ∷ now) few (key, done, rest) name
         (unwrap_or (cond here (Some other.1) (lookup (bytes_eq name) now)) [])
     by true others = done
     by false others = others
+
+-- ---- what was noted, and is settled
+
+-- the places that a test of membership tells, once they are noted where nothing was and settled
+pub settled_from : (places : List ℕ → List PhraseAt) (noted settled : PlainUses)
+    → Adds (λ name at. is_among at (places name)) [] noted → AreSettled noted settled
+    → (name : List ℕ) → IsSettled (places name) (mentions_of name settled)
+settled_from places noted settled adds are name =
+    record {
+      increasing = (are name).increasing;
+      each = λ at. (
+        λ there. among at (places name) (sym (adds name at) ∙ is_there at (mentions_of name settled) (mentions_of name noted) ((are name).each at).0 there),
+        λ there. ((are name).each at).1 (among at (mentions_of name noted) (adds name at ∙ list_any-from_Contains places_equiv at (places name) there)),
+      );
+    }
+  where
+    among : (at : PhraseAt) (all : List PhraseAt) → is_among at all ≡ true → Contains all at
+    among at all there = Contains-from_any same_place at all there
+
+    is_there : (at : PhraseAt) (new old : List PhraseAt) → (Contains new at → Contains old at) → Contains new at → is_among at old ≡ true
+    is_there at new old back there = list_any-from_Contains places_equiv at old (back there)

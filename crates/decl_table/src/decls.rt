@@ -1,5 +1,6 @@
 //! The table of declarations.
-ghost use Rattle.std.specs.Prelude.{◌≡◌, ◌<◌, IfOk, OnOk, bytes_eq, option_map};
+ghost use Rattle.std.specs.Prelude.{◌≡◌, ◌<◌, [], ℕ, false, if◌then◌else◌, IfOk, List, OnOk, Some, bytes_eq, nat_eq, option_map};
+ghost use Rattle.std.specs.FinMap.{empty, get, insert};
 ghost use Rattle.std.specs.List.{list_any};
 ghost use Rattle.template_tree.specs.Checks.Environment.{item_named};
 ghost use Rattle.template_tree.specs.Programs.Limit.{most_slots};
@@ -14,20 +15,24 @@ ghost use Rattle.decl_table.specs.Private.DeclsView.{TakesProcedure};
 
 use crate::headings::Headings;
 use crate::items::Items;
+use crate::name_node::NameNode;
 use crate::scopes::Scopes;
 use crate::uses::Uses;
 use plcs_base::{Declared, Name, OutOfMemory, PhraseAt, Scope, Slot};
+use plcs_grammar::NodeKind;
 use std::alloc::Global;
 use std::marker::Model;
 use template_tree::{Node, Tree, items_are_nodes, path_of_item};
 
-/// The table of declarations: the effective items of each procedure, the effective headings, and the
-/// phrases that mention each name. Contracts see the items as a finite map, and the others as pairs.
+/// The table of declarations: the effective items of each procedure, the effective headings, and the phrases that
+/// mention each name. Contracts see the items as a finite map, and the others as pairs, with the names that each node
+/// mentions, and how many new procedures, headings and names there is room for.
 #[derive(Drop)]
 pub struct Decls {
-    scopes: Scopes,
-    headings: Headings,
-    uses: Uses,
+    pub(crate) scopes: Scopes,
+    pub(crate) headings: Headings,
+    pub(crate) uses: Uses,
+    pub(crate) names: NameNode,
 }
 
 impl Model for Decls {
@@ -38,7 +43,13 @@ impl Model for Decls {
 
     ghost coded = { decls_code };
 
-    ghost view = { λ a. record { items = a.scopes; headings = a.headings; uses = a.uses } };
+    ghost view = { λ a. record {
+      items = a.scopes.items;
+      headings = a.headings.headings;
+      uses = a.uses.uses;
+      names = a.names.inner;
+      spare = record { procedures = a.scopes.spare; headings = a.headings.spare; names = a.uses.spare };
+    } };
 }
 
 impl Decls {
@@ -49,11 +60,7 @@ impl Decls {
         ensures { IfOk result (λ decls. IsDeclsOf decls tree.now.items) }
     {
         items_are_nodes();
-        let mut decls = Decls {
-            scopes: Scopes::new(alloc),
-            headings: Headings::new(alloc),
-            uses: Uses::new(alloc),
-        };
+        let mut decls = Decls::none(alloc);
         let mut k = tree.procedures() + 1;
         // From the last on, so that the first heading of a name takes the place of later ones.
         while k > 0 {
@@ -63,8 +70,79 @@ impl Decls {
             };
             decls.take(alloc, procedure)?;
         }
-        decls.uses.settle();
-        Ok(decls)
+        let names = NameNode::of_program(alloc, tree)?;
+        let uses = Uses::of(alloc, &names)?;
+        Ok(decls.with_names(names, uses))
+    }
+
+    /// A table that has nothing yet. It takes no memory.
+    pub(crate) fn none(alloc: Global) -> Decls
+        ensures items { result.items ≡ empty }
+        ensures headings { result.headings ≡ [] }
+    {
+        Decls {
+            scopes: Scopes::new(alloc),
+            headings: Headings::new(alloc),
+            uses: Uses::new(alloc),
+            names: NameNode::bare(alloc, Slot(0), NodeKind::Main),
+        }
+    }
+
+    /// Puts the effective items of a procedure into the table.
+    pub(crate) fn put_items(&mut self, procedure: Slot, items: Items) -> Result<(), OutOfMemory>
+        ensures items { OnOk result (self.new.items ≡ insert self.old.items procedure.0 items) }
+        ensures headings { self.new.headings ≡ self.old.headings }
+    {
+        self.scopes.put(procedure, items)
+    }
+
+    /// Notes one item of a procedure, if it isn't there.
+    pub(crate) fn note_item(
+        &mut self,
+        alloc: Global,
+        procedure: Slot,
+        item: &Declared,
+    ) -> Result<(), OutOfMemory>
+        ensures named { OnOk result ((name : List ℕ) → item_named name (items_in self.new.items procedure.0)
+            ≡ (if bytes_eq item.now.name name then Some item.now
+            else item_named name (items_in self.old.items procedure.0))) }
+        ensures others { OnOk result ((slot : ℕ) → nat_eq procedure.0 slot ≡ false
+            → get self.new.items slot ≡ get self.old.items slot) }
+        ensures headings { self.new.headings ≡ self.old.headings }
+    {
+        self.scopes.note(alloc, procedure, item)
+    }
+
+    /// Notes that the effective heading of the name is in this slot.
+    pub(crate) fn note_heading(&mut self, name: &Name, slot: Slot) -> Result<(), OutOfMemory>
+        ensures noted { OnOk result ((other : List ℕ) → slot_of other self.new.headings
+            ≡ (if bytes_eq name.now other then Some slot.0 else slot_of other self.old.headings)) }
+        ensures items { self.new.items ≡ self.old.items }
+    {
+        self.headings.put(name.copy(), slot)
+    }
+
+    /// The table with these names of nodes, and these uses of names.
+    fn with_names(self, names: NameNode, uses: Uses) -> Decls
+        ensures { result ≡ record {
+          items = self.items;
+          headings = self.headings;
+          uses = uses.uses;
+          names = names.inner;
+          spare = result.spare;
+        } }
+    {
+        let Decls {
+            scopes,
+            headings,
+            ..
+        } = self;
+        Decls {
+            scopes,
+            headings,
+            uses,
+            names,
+        }
     }
 
     /// What the table says of a name in a procedure: the effective item that the procedure has of the
@@ -106,7 +184,7 @@ impl Decls {
         self.uses.under(name)
     }
 
-    /// Takes main or a procedure into the table, with its items, its heading and what it mentions.
+    /// Takes main or a procedure into the table, with its items and its heading.
     /// Those that stand behind it were taken before.
     fn take(&mut self, alloc: Global, procedure: &Node) -> Result<(), OutOfMemory>
         requires subtree { IsSubtree procedure.now }
@@ -115,8 +193,7 @@ impl Decls {
     {
         self.scopes
             .put(procedure.slot(), Items::of(alloc, procedure)?)?;
-        self.headings.take(procedure)?;
-        self.uses.note_node(alloc, procedure)
+        self.headings.take(procedure)
     }
 }
 

@@ -1,17 +1,18 @@
-//! The effective items of one procedure, as they are taken one after the other and found again.
-ghost use Rattle.std.specs.Prelude.{◌≡◌, ◌<◌, [], IfOk, OnOk, is_some, option_map, Some, slice_get};
-ghost use Rattle.plcs_base.specs.declared.declared.Declared.{Declared};
-ghost use Rattle.template_tree.specs.Checks.Environment.{all_declared, cells_of, declares, effective, item_named, item_offence, declared_as, items_inside, with_type, with_declared};
+//! The effective items of one procedure, or some of them, found by name and by number.
+ghost use Rattle.std.specs.Prelude.{◌≡◌, ◌∷◌, ◌++◌, [], ℕ, false, if◌then◌else◌, IfSome, List, OnErr, OnOk, Some, bytes_eq, is_some, length, option_and_then, option_map, slice_get};
+ghost use Rattle.std.specs.List.{IsDistinct, list_any};
+ghost use Rattle.std.specs.Option.{option_copied};
+ghost use Rattle.template_tree.specs.Checks.Environment.{cells_of, item_named, declared_as, scalar_kind};
+ghost use Rattle.decl_table.specs.Private.ItemTests.{kind_turns, lost_at, same_shapes};
 ghost use Rattle.decl_table.specs.Private.ItemsView.{shaped};
-ghost use Rattle.template_tree.specs.Programs.Limit.{most_slots};
-ghost use Rattle.template_tree.specs.Programs.Slots.{count};
 
+use crate::kind::kind_of_type;
 use indexmap::IndexMap;
-use plcs_base::{Declared, ItemType, MarkKind, Name, OutOfMemory};
-use plcs_grammar::{Builtin, Item};
+use plcs_base::{Declared, ItemType, Kind, Name, OutOfMemory};
+use plcs_grammar::Item;
 use std::alloc::Global;
 use std::marker::Model;
-use template_tree::{MOST_CELLS, Node, cells_of, items_are_nodes, list_items, type_given};
+use template_tree::cells_of;
 
 /// What is kept of an effective item beside its name: its type, and its number of cells as an array, or
 /// 0 for a scalar.
@@ -21,11 +22,10 @@ pub(crate) struct Shape {
     pub(crate) size: u32,
 }
 
-/// The effective items of one procedure in listing order, which contracts see as a list.
+/// Effective items of one procedure in order, which contracts see as a list.
 #[derive(Drop)]
 pub(crate) struct Items {
     shapes: IndexMap<Name, Shape>,
-    cells: u32,
 }
 
 impl Model for Items {
@@ -44,82 +44,33 @@ impl Model for Items {
 
 impl Items {
     /// No items, before any of the procedure is taken.
-    fn new(alloc: Global) -> Items
+    pub(crate) fn new(alloc: Global) -> Items
         ensures { result ≡ [] }
     {
         Items {
             shapes: IndexMap::new(alloc),
-            cells: 0,
         }
     }
 
-    /// The effective items of the procedure, taken from its nodes one after the other.
-    pub(crate) fn of(alloc: Global, procedure: &Node) -> Result<Items, OutOfMemory>
-        requires few { count procedure.now.inner < most_slots }
-        ensures { IfOk result (λ items. items ≡ items_inside procedure.now.inner) }
+    /// Puts one more item behind the others, or in the place of the one that has its name.
+    pub(crate) fn put(&mut self, name: &Name, shape: Shape) -> Result<(), OutOfMemory>
+        ensures last { OnOk result (is_some (item_named name.now self.old) ≡ false
+            → self.new ≡ self.old ++ (shaped name.now shape ∷ [])) }
+        ensures named { OnOk result ((other : List ℕ) → item_named other self.new
+            ≡ (if bytes_eq name.now other then Some (shaped name.now shape) else item_named other self.old)) }
+        ensures refused { OnErr result (self.new ≡ self.old) }
     {
-        items_are_nodes();
-        let mut items = Items::new(alloc);
-        let mut k = 0;
-        while let Some(node) = procedure.child(k) {
-            items.declare_all(node)?;
-            k += 1;
-        }
-        Ok(items)
-    }
-
-    /// Takes the items that the node declares, as far as they are effective.
-    fn declare_all(&mut self, node: &Node) -> Result<(), OutOfMemory>
-        ensures { OnOk result (self.new ≡ effective self.old (declares node.now.label)) }
-    {
-        let Some(ty) = type_given(node) else {
-            return Ok(());
-        };
-        self.declare_list(ty, list_items(node))
-    }
-
-    /// Takes the items of a declared list with the type, as far as they are effective.
-    fn declare_list(&mut self, ty: ItemType, list: &[Item]) -> Result<(), OutOfMemory>
-        ensures { OnOk result (self.new ≡ effective self.old (with_type (Some ty) list.now)) }
-    {
-        for item in list {
-            self.declare(&item.name, shape_of(ty, item))?;
-        }
-        Ok(())
-    }
-
-    /// Takes one more item, where it is effective behind those that are taken.
-    fn declare(&mut self, name: &Name, shape: Shape) -> Result<(), OutOfMemory>
-        ensures { OnOk result (self.new ≡ with_declared self.old (shaped name.now shape)) }
-    {
-        if self.offence(name, shape).is_some() {
-            return Ok(());
-        }
-        let cells = self.cells + shape.cells();
         self.shapes.insert(name.copy(), shape)?;
-        self.cells = cells;
         Ok(())
     }
 
-    /// Why one more item isn't taken among the effective ones of the procedure, behind those that were taken,
-    /// or `None` where it is.
-    fn offence(&self, name: &Name, shape: Shape) -> Option<MarkKind>
-        ensures { result ≡ item_offence self.now (shaped name.now shape) }
+    /// Whether one of the items has the name.
+    pub(crate) fn has(&self, name: &Name) -> bool
+        ensures { result ≡ is_some (item_named name.now self.now) }
     {
-        if Builtin::read(name.as_bytes()).is_some() {
-            return Some(MarkKind::Reserved);
-        }
-        if self.shapes.get(name).is_some() {
-            return Some(MarkKind::Duplicate);
-        }
-        if shape.cells() > MOST_CELLS - self.cells {
-            return Some(MarkKind::TooManyCells);
-        }
-        None
+        self.shapes.contains_key(name)
     }
-}
 
-impl Items {
     /// The item of the name among those of the one procedure, or `None` where no item has it.
     pub(crate) fn named(&self, name: &Name) -> Option<Declared>
         ensures { result ≡ item_named name.now self.now }
@@ -128,6 +79,16 @@ impl Items {
             return None;
         };
         Some(declared(name, *shape))
+    }
+
+    /// The kind of the item of the name, if it is a scalar: that of a parameter of the name.
+    pub(crate) fn scalar_kind(&self, name: &Name) -> Option<Kind>
+        ensures { result ≡ option_and_then scalar_kind (item_named name.now self.now) }
+    {
+        match self.named(name) {
+            Some(item) => kind_of_scalar(item),
+            None => None,
+        }
     }
 
     /// The item of this number among those of the one procedure, counted from 0, or `None` where there
@@ -140,26 +101,89 @@ impl Items {
         };
         Some(declared(name, *shape))
     }
+
+    /// The name of the item of this number, counted from 0, if the others have another item of the name, or none.
+    pub(crate) fn differing(&self, k: usize, others: &Items) -> Option<&Name>
+        ensures { option_copied result ≡ lost_at self.now others.now k }
+    {
+        let Some((name, _)) = self.shapes.get_index(k) else {
+            return None;
+        };
+        if same_shapes(self.shapes.get(name), others.shapes.get(name)) {
+            None
+        } else {
+            Some(name)
+        }
+    }
+
+    /// Whether one of the names has another kind as a scalar by the new items.
+    pub(crate) fn turn(&self, new: &Items, names: &[Name]) -> bool
+        ensures { result ≡ list_any (kind_turns self.now new.now) names.now }
+    {
+        names.iter().any(|name| self.turns(new, name))
+    }
+
+    /// Whether the name has another kind as a scalar by the new items.
+    fn turns(&self, new: &Items, name: &Name) -> bool
+        ensures { result ≡ kind_turns self.now new.now name.now }
+    {
+        self.scalar_kind(name) != new.scalar_kind(name)
+    }
+
+    /// How many items there are.
+    pub(crate) fn len(&self) -> usize
+        ensures { result ≡ length self.now }
+    {
+        self.shapes.len()
+    }
 }
 
 impl Shape {
+    /// What is to be kept of this effective item.
+    pub(crate) fn of(item: &Declared) -> Shape
+        ensures { shaped item.now.name result ≡ item.now }
+    {
+        Shape {
+            ty: item.ty,
+            size: item.size,
+        }
+    }
+
+    /// What is to be kept of an item that is declared with the type.
+    pub(crate) fn declared(ty: ItemType, item: &Item) -> Shape
+        ensures { shaped item.now.name result ≡ declared_as ty item.now }
+    {
+        let size = match item.size {
+            Some(size) => size,
+            None => 0,
+        };
+        Shape { ty, size }
+    }
+
     /// How many cells an item has of which this type and size are kept.
-    fn cells(self) -> u32
+    pub(crate) fn cells(self) -> u32
         ensures { result ≡ cells_of (shaped [] self) }
     {
         cells_of(self.size)
     }
 }
 
-/// What is to be kept of an item that is declared with the type.
-fn shape_of(ty: ItemType, item: &Item) -> Shape
-    ensures { shaped item.now.name result ≡ declared_as ty item.now }
+/// Whether the types and sizes are the same, or neither is there.
+fn same_shapes(one: Option<&Shape>, other: Option<&Shape>) -> bool
+    ensures { result ≡ same_shapes (option_copied one.entry) (option_copied other.entry) }
 {
-    let size = match item.size {
-        Some(size) => size,
-        None => 0,
-    };
-    Shape { ty, size }
+    one == other
+}
+
+/// The kind of an item, if it is a scalar.
+fn kind_of_scalar(item: Declared) -> Option<Kind>
+    ensures { result ≡ scalar_kind item }
+{
+    if item.size == 0 {
+        Some(kind_of_type(item.ty))
+    } else {
+        None
+    }
 }
 
 /// The effective item of the name, from the type and size that are kept of it.

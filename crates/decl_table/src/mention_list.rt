@@ -1,8 +1,9 @@
-//! A list of places of phrases, which is put in order.
-ghost use Rattle.std.specs.Prelude.{◌≡◌, ◌∷◌, ◌++◌, [], IfOk, OnOk, Contains, ◌↔◌};
+//! Lists of places of phrases, in order and mended.
+ghost use Rattle.std.specs.Prelude.{◌≡◌, ◌==◌, ◌∷◌, ◌++◌, [], IfOk, OnOk, Contains, ◌↔◌, length};
 ghost use Rattle.std.specs.List.Sorted.{IsStrictlySortedBy};
 ghost use Rattle.plcs_base.specs.Mark.{phrase_cmp};
-ghost use Rattle.decl_table.specs.Private.UsesView.{IsSettled};
+ghost use Rattle.decl_table.specs.DeclEdit.{changed_or};
+ghost use Rattle.decl_table.specs.Private.UsesView.{IsMended, IsSettled, IsWith, IsWithout, earlier_places, later_places};
 
 use plcs_base::{OutOfMemory, PhraseAt};
 use std::alloc::Global;
@@ -27,6 +28,23 @@ impl Model for MentionList {
 }
 
 impl MentionList {
+    /// The list of no places. It takes no memory.
+    pub(crate) fn new(alloc: Global) -> MentionList
+        ensures { result ≡ [] }
+    {
+        MentionList {
+            list: Vec::new(alloc),
+        }
+    }
+
+    /// The list of no places, with room for so many.
+    fn with_room(alloc: Global, places: usize) -> Result<MentionList, OutOfMemory>
+        ensures { IfOk result (λ list. list ≡ []) }
+    {
+        let list = Vec::with_capacity(alloc, places)?;
+        Ok(MentionList { list })
+    }
+
     /// The list of this one place of a phrase.
     pub(crate) fn of(alloc: Global, at: PhraseAt) -> Result<MentionList, OutOfMemory>
         ensures { IfOk result (λ places. places ≡ at ∷ []) }
@@ -44,6 +62,14 @@ impl MentionList {
         Ok(())
     }
 
+    /// Puts these places behind the others in the list.
+    pub(crate) fn add_all(&mut self, places: &[PhraseAt]) -> Result<(), OutOfMemory>
+        ensures { OnOk result (self.new ≡ self.old ++ places.now) }
+    {
+        self.list.extend_from_slice(places)?;
+        Ok(())
+    }
+
     /// Puts the list of places in order of slot and part, each once.
     pub(crate) fn settle(&mut self)
         ensures { IsSettled self.old self.new }
@@ -52,10 +78,104 @@ impl MentionList {
         self.list.dedup();
     }
 
+    /// Whether there are no places in the list.
+    pub(crate) fn is_empty(&self) -> bool
+        ensures { result ≡ (length self.now == 0) }
+    {
+        self.list.is_empty()
+    }
+
     /// All places of phrases in the list.
     pub(crate) fn as_slice(&self) -> &[PhraseAt]
         ensures { result.now ≡ self.now }
     {
         self.list.as_slice()
+    }
+}
+
+impl MentionList {
+    /// What is left of the places, which are in order, once those went and these came, each in order too, or `None`
+    /// where they stay.
+    pub(crate) fn mended(
+        alloc: Global,
+        before: &[PhraseAt],
+        went: &[PhraseAt],
+        came: &[PhraseAt],
+    ) -> Result<Option<MentionList>, OutOfMemory>
+        requires before { IsStrictlySortedBy phrase_cmp before.now }
+        requires went { IsStrictlySortedBy phrase_cmp went.now }
+        requires came { IsStrictlySortedBy phrase_cmp came.now }
+        ensures { IfOk result (λ mended. IsMended before.now went.now came.now (changed_or mended before.now)) }
+    {
+        let out = MentionList::without(alloc, went, came)?;
+        let more = MentionList::without(alloc, came, went)?;
+        if out.is_empty() {
+            if more.is_empty() {
+                return Ok(None);
+            }
+        }
+        let rest = MentionList::without(alloc, before, out.as_slice())?;
+        let places = MentionList::with_more(alloc, rest.as_slice(), more.as_slice())?;
+        Ok(Some(places))
+    }
+
+    /// The places, which are in order, but for these, which are in order too. The stretches between those that are
+    /// left out are copied as a whole.
+    fn without(
+        alloc: Global,
+        places: &[PhraseAt],
+        out: &[PhraseAt],
+    ) -> Result<MentionList, OutOfMemory>
+        requires places { IsStrictlySortedBy phrase_cmp places.now }
+        requires out { IsStrictlySortedBy phrase_cmp out.now }
+        ensures { IfOk result (IsWithout places.now out.now) }
+    {
+        let mut list = MentionList::with_room(alloc, places.len())?;
+        let mut rest = places;
+        for at in out {
+            let (front, back) = split_around(rest, *at);
+            list.add_all(front)?;
+            rest = back;
+        }
+        list.add_all(rest)?;
+        Ok(list)
+    }
+
+    /// The places, which are in order, with these, which are in order too; each stands there once. The stretches
+    /// between those that come in are copied as a whole.
+    fn with_more(
+        alloc: Global,
+        places: &[PhraseAt],
+        more: &[PhraseAt],
+    ) -> Result<MentionList, OutOfMemory>
+        requires places { IsStrictlySortedBy phrase_cmp places.now }
+        requires more { IsStrictlySortedBy phrase_cmp more.now }
+        ensures { IfOk result (IsWith places.now more.now) }
+    {
+        let mut list = MentionList::with_room(alloc, places.len().saturating_add(more.len()))?;
+        let mut rest = places;
+        for at in more {
+            let (front, back) = split_around(rest, *at);
+            list.add_all(front)?;
+            list.push(*at)?;
+            rest = back;
+        }
+        list.add_all(rest)?;
+        Ok(list)
+    }
+}
+
+/// Of the places, which are in order, those before the place and those behind it.
+fn split_around<'a>(places: &'a [PhraseAt], at: PhraseAt) -> (&'a [PhraseAt], &'a [PhraseAt])
+    requires sorted { IsStrictlySortedBy phrase_cmp places.now }
+    ensures { (result.0.now ≡ earlier_places at places.now) × (result.1.now ≡ later_places at places.now) }
+{
+    match places.binary_search(&at) {
+        Ok(k) => {
+            let (front, _) = places.split_at(k);
+            let (_, back) = places.split_at(k + 1);
+            (front, back)
+        }
+        Err(k) => places.split_at(k),
     }
 }

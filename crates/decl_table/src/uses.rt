@@ -1,53 +1,76 @@
-//! The phrases that mention each name, noted node by node.
-ghost use Rattle.std.specs.Prelude.{◌≡◌, ◌+◌, ◌<◌, ◌≤◌, ◌∷◌, ◌++◌, [], OnOk, IfOk, Some, length, map, flat_map, option_map};
-ghost use Rattle.plcs_grammar.specs.PlainPhrase.{plain_expr, plain_exprs, plain_phrase, plain_var_ref};
-ghost use Rattle.template_tree.specs.Programs.Limit.{most_slots};
-ghost use Rattle.template_tree.specs.Checks.Mention.{mentioned, names_in, names_in_all, reference_names};
-ghost use Rattle.template_tree.specs.Programs.PlainPhrasePlace.{plain_phrase_place};
-ghost use Rattle.template_tree.specs.Programs.PlainTree.{forest};
-ghost use Rattle.template_tree.specs.Programs.Program.{IsSubtree};
-ghost use Rattle.template_tree.specs.Programs.Slots.{count};
+//! The places of the phrases that mention each name.
+ghost use Rattle.std.specs.Prelude.{◌≡◌, ◌+◌, ◌<◌, ◌≤◌, ◌∷◌, [], ℕ, if◌then◌else◌, IfOk, List, OnOk, Some, bytes_eq, is_some, length, slice_get};
+ghost use Rattle.std.specs.List.{list_any};
+ghost use Rattle.std.specs.Map.{keys_of, lookup};
+ghost use Rattle.decl_table.specs.DeclEdit.{changed_or};
+ghost use Rattle.std.specs.Option.{option_flatten};
+ghost use Rattle.template_tree.specs.Checks.Mention.{phrase_at};
 ghost use Rattle.decl_table.specs.PlainDecls.{mentions_of};
-ghost use Rattle.decl_table.specs.Private.UsesView.{AddsNames, AddsNodes, AddsPart, AddsParts, AreSettled};
+ghost use Rattle.decl_table.specs.Private.PlainNameNode.{HaveFewParts, kept_mention, kept_mentions, name_forest, node_names};
+ghost use Rattle.decl_table.specs.Private.UsesView.{AddsUnderNames, AddsNodes, AddsPart, AddsParts, AreOrdered, AreSettled, IsNameMended, IsSettled, MendsNames};
 
 use crate::mention_list::MentionList;
+use crate::name_node::NameNode;
 use indexmap::IndexMap;
 use plcs_base::{Name, OutOfMemory, PhraseAt};
-use plcs_grammar::{Expr, Item, Phrase, VarRef};
 use std::alloc::Global;
 use std::marker::Model;
-use template_tree::{Node, PhrasePlace, items_are_nodes};
 
-/// For each name the places of the phrases that mention it, which contracts see as a list of pairs.
+/// For each name the places of the phrases that mention it, which contracts see as a list of pairs, with how many more
+/// names there is room for.
 #[derive(Drop)]
 pub(crate) struct Uses {
     places: IndexMap<Name, MentionList>,
 }
 
 impl Model for Uses {
-    ghost use Rattle.decl_table.specs.PlainDecls.{PlainUses};
-    ghost use Rattle.decl_table.specs.Private.UsesView.{uses_code};
+    ghost use Rattle.indexmap.specs.IndexMap.{spare};
+    ghost use Rattle.decl_table.specs.Private.UsesView.{RoomyUses, roomy_uses_code};
 
-    ghost Value = { PlainUses };
+    ghost Value = { RoomyUses };
 
-    ghost coded = { uses_code };
+    ghost coded = { roomy_uses_code };
 
-    ghost view = { λ a. a.places.entries };
+    ghost view = { λ a. record { uses = a.places.entries; spare = spare a.places } };
 }
 
 impl Uses {
     /// Nothing is noted: no name is mentioned.
     pub(crate) fn new(alloc: Global) -> Uses
-        ensures { result ≡ [] }
+        ensures { result.uses ≡ [] }
     {
         Uses {
             places: IndexMap::new(alloc),
         }
     }
 
+    /// The places of the phrases in the node and inside it, in order, under the names that they mention.
+    pub(crate) fn of(alloc: Global, node: &NameNode) -> Result<Uses, OutOfMemory>
+        requires few { HaveFewParts (node_names node.now) }
+        ensures { IfOk result (λ uses. (name : List ℕ)
+            → IsSettled (kept_mentions name (node_names node.now)) (mentions_of name uses.uses)) }
+    {
+        let mut uses = Uses::new(alloc);
+        uses.note_node(alloc, node)?;
+        uses.settle();
+        Ok(uses)
+    }
+
+    /// The place of what stands in a part of the node, if a phrase does, under the names that it mentions.
+    pub(crate) fn of_part(alloc: Global, node: &NameNode, part: u8) -> Result<Uses, OutOfMemory>
+        ensures { IfOk result (λ uses. (name : List ℕ)
+            → IsSettled (kept_mention name (phrase_at node.now.label.slot part)
+            (option_flatten (slice_get node.now.label.parts part))) (mentions_of name uses.uses)) }
+    {
+        let mut uses = Uses::new(alloc);
+        uses.note_part(alloc, node, part)?;
+        uses.settle();
+        Ok(uses)
+    }
+
     /// The places that are noted under the name, of the phrases that mention it.
     pub(crate) fn under(&self, name: &Name) -> &[PhraseAt]
-        ensures { result.now ≡ mentions_of name.now self.now }
+        ensures { result.now ≡ mentions_of name.now self.now.uses }
     {
         match self.places.get(name) {
             Some(places) => places.as_slice(),
@@ -55,9 +78,34 @@ impl Uses {
         }
     }
 
+    /// Whether something is noted under the name, if only that no phrase mentions it.
+    pub(crate) fn has(&self, name: &Name) -> bool
+        ensures { result ≡ is_some (lookup (bytes_eq name.now) self.now.uses) }
+    {
+        self.places.contains_key(name)
+    }
+
+    /// Under how many names something is noted.
+    pub(crate) fn len(&self) -> usize
+        ensures { result ≡ length self.now.uses }
+    {
+        self.places.len()
+    }
+
+    /// The name of this number under which something is noted.
+    fn name(&self, k: usize) -> &Name
+        requires there { k < length self.now.uses }
+        ensures { slice_get (keys_of self.now.uses) k ≡ Some result.now }
+    {
+        match self.places.get_index(k) {
+            Some((name, _)) => name,
+            None => unreachable!(),
+        }
+    }
+
     /// Puts the places that are noted under each name in order of slot and part, each once.
-    pub(crate) fn settle(&mut self)
-        ensures { AreSettled self.old self.new }
+    fn settle(&mut self)
+        ensures { AreSettled self.old.uses self.new.uses }
     {
         for k in 0..self.places.len() {
             if let Some(places) = self.places.get_index_mut(k) {
@@ -69,163 +117,59 @@ impl Uses {
 
 impl Uses {
     /// Notes the phrases in the node and inside it under the names that they mention.
-    pub(crate) fn note_node(&mut self, alloc: Global, node: &Node) -> Result<(), OutOfMemory>
-        requires subtree { IsSubtree node.now }
-        requires few { count node.now.inner < most_slots }
-        ensures { OnOk result (AddsNodes (forest (node.now ∷ [])) self.old self.new) }
+    #[cycle(note_node)]
+    fn note_node(&mut self, alloc: Global, node: &NameNode) -> Result<(), OutOfMemory>
+        requires few { HaveFewParts (node_names node.now) }
+        ensures { OnOk result (AddsNodes (node_names node.now) self.old.uses self.new.uses) }
     {
-        items_are_nodes();
         self.note_parts(alloc, node)?;
-        let mut k = 0;
-        while let Some(child) = node.child(k) {
-            self.note_node(alloc, child)?;
-            k += 1;
+        self.note_nodes(alloc, node.nodes_inside())
+    }
+
+    /// Notes the phrases in the nodes and inside them under the names that they mention.
+    #[cycle(note_node)]
+    fn note_nodes(&mut self, alloc: Global, nodes: &[NameNode]) -> Result<(), OutOfMemory>
+        requires few { HaveFewParts (name_forest nodes.now) }
+        ensures { OnOk result (AddsNodes (name_forest nodes.now) self.old.uses self.new.uses) }
+    {
+        for node in nodes {
+            self.note_node(alloc, node)?;
         }
         Ok(())
     }
 
-    /// Notes the phrases in the parts of the node under the names that they mention.
-    fn note_parts(&mut self, alloc: Global, node: &Node) -> Result<(), OutOfMemory>
+    /// Notes what stands in the parts of the node under the names that it mentions.
+    fn note_parts(&mut self, alloc: Global, node: &NameNode) -> Result<(), OutOfMemory>
         requires few { length node.now.label.parts < 256 }
-        ensures { OnOk result (AddsParts node.now.label.slot 0 node.now.label.parts self.old self.new) }
+        ensures { OnOk result (AddsParts node.now.label.slot 0 node.now.label.parts self.old.uses self.new.uses) }
     {
-        let slot = node.slot();
         let mut part = 0;
-        while let Some(place) = node.part(part) {
-            self.note_mention(alloc, place, PhraseAt { slot, part })?;
+        while (part as usize) < node.parts() {
+            self.note_part(alloc, node, part)?;
             part += 1;
         }
         Ok(())
     }
 
-    /// Notes what stands in one part, a phrase or nothing, under the names that it mentions.
-    fn note_mention(
-        &mut self,
-        alloc: Global,
-        place: &PhrasePlace,
-        at: PhraseAt,
-    ) -> Result<(), OutOfMemory>
-        ensures { OnOk result (AddsPart at (plain_phrase_place place.now) self.old self.new) }
+    /// Notes what stands in a part of the node, a phrase or nothing, under the names that it mentions.
+    fn note_part(&mut self, alloc: Global, node: &NameNode, part: u8) -> Result<(), OutOfMemory>
+        ensures { OnOk result (AddsPart node.now part self.old.uses self.new.uses) }
     {
-        match place {
-            PhrasePlace::Empty => Ok(()),
-            PhrasePlace::Filled(phrase) => self.note_phrase(alloc, phrase, at),
-        }
-    }
-}
-
-impl Uses {
-    /// Notes the names that the phrase mentions.
-    fn note_phrase(
-        &mut self,
-        alloc: Global,
-        phrase: &Phrase,
-        at: PhraseAt,
-    ) -> Result<(), OutOfMemory>
-        ensures { OnOk result (AddsNames (mentioned (plain_phrase phrase.now)) at self.old self.new) }
-    {
-        match phrase {
-            Phrase::Assignment(target, value) => {
-                self.note_variable(alloc, target, at)?;
-                self.note_expr(alloc, value, at)
-            }
-            Phrase::Condition(expr) => self.note_expr(alloc, expr, at),
-            Phrase::Expression(expr) => self.note_expr(alloc, expr, at),
-            Phrase::ExpressionList(exprs) => self.note_exprs(alloc, exprs, at),
-            Phrase::VariableList(targets) => self.note_variables(alloc, targets, at),
-            Phrase::Variable(name) => self.note(alloc, name, at),
-            Phrase::CallRef(name, arguments) => {
-                self.note(alloc, name, at)?;
-                self.note_exprs(alloc, arguments, at)
-            }
-            Phrase::DeclaredList(items) => self.note_items(alloc, items, at),
-            Phrase::ProcedureName(name) => self.note(alloc, name, at),
-            Phrase::NameList(names) => self.note_names(alloc, names, at),
-            Phrase::Length(_) => Ok(()),
-            Phrase::CommentText(_) => Ok(()),
-        }
-    }
-
-    /// Notes the names in an expression. A chain of operators is gone through in a loop, from its end on.
-    #[cycle(note_expr)]
-    fn note_expr(&mut self, alloc: Global, expr: &Expr, at: PhraseAt) -> Result<(), OutOfMemory>
-        ensures { OnOk result (AddsNames (names_in (plain_expr expr.now)) at self.old self.new) }
-    {
-        let mut rest = expr;
-        loop {
-            match rest {
-                Expr::Infix(_, left, right) => {
-                    self.note_expr(alloc, right, at)?;
-                    rest = left;
-                }
-                Expr::Number(_) => return Ok(()),
-                Expr::Text(_) => return Ok(()),
-                Expr::Bit(_) => return Ok(()),
-                Expr::Var(variable) => return self.note_variable(alloc, variable, at),
-                Expr::Prefix(_, operand) => return self.note_expr(alloc, operand, at),
-                Expr::Builtin(_, arguments) => return self.note_exprs(alloc, arguments, at),
-                Expr::Paren(inside) => return self.note_expr(alloc, inside, at),
-            }
-        }
-    }
-
-    /// Notes the name of a variable and those in its subscript.
-    #[cycle(note_expr)]
-    fn note_variable(
-        &mut self,
-        alloc: Global,
-        variable: &VarRef,
-        at: PhraseAt,
-    ) -> Result<(), OutOfMemory>
-        ensures { OnOk result (AddsNames (reference_names (plain_var_ref variable.now)) at self.old self.new) }
-    {
-        self.note(alloc, &variable.name, at)?;
-        match &variable.index {
+        match node.part(part) {
             None => Ok(()),
-            Some(index) => self.note_expr(alloc, index, at),
+            Some(names) => {
+                let at = PhraseAt {
+                    slot: node.slot(),
+                    part,
+                };
+                self.note_names(alloc, names.as_slice(), at)
+            }
         }
     }
 
-    /// Notes the names in a list of expressions.
-    #[cycle(note_expr)]
-    fn note_exprs(&mut self, alloc: Global, exprs: &[Expr], at: PhraseAt) -> Result<(), OutOfMemory>
-        ensures { OnOk result (AddsNames (names_in_all (plain_exprs exprs.now)) at self.old self.new) }
-    {
-        for expr in exprs {
-            self.note_expr(alloc, expr, at)?;
-        }
-        Ok(())
-    }
-
-    /// Notes the names in a list of variables, and those in their subscripts.
-    fn note_variables(
-        &mut self,
-        alloc: Global,
-        variables: &[VarRef],
-        at: PhraseAt,
-    ) -> Result<(), OutOfMemory>
-        ensures { OnOk result (AddsNames
-            (flat_map reference_names (map plain_var_ref variables.now)) at self.old self.new) }
-    {
-        for variable in variables {
-            self.note_variable(alloc, variable, at)?;
-        }
-        Ok(())
-    }
-
-    /// Notes the names that a declared list mentions.
-    fn note_items(&mut self, alloc: Global, items: &[Item], at: PhraseAt) -> Result<(), OutOfMemory>
-        ensures { OnOk result (AddsNames (map (λ item. item.name) items.now) at self.old self.new) }
-    {
-        for item in items {
-            self.note(alloc, &item.name, at)?;
-        }
-        Ok(())
-    }
-
-    /// Notes each of the names, which are those of parameters.
+    /// Notes the place of a phrase under each of the names that it mentions.
     fn note_names(&mut self, alloc: Global, names: &[Name], at: PhraseAt) -> Result<(), OutOfMemory>
-        ensures { OnOk result (AddsNames names.now at self.old self.new) }
+        ensures { OnOk result (AddsUnderNames names.now at self.old.uses self.new.uses) }
     {
         for name in names {
             self.note(alloc, name, at)?;
@@ -235,7 +179,7 @@ impl Uses {
 
     /// Notes the place of a phrase under one name that it mentions.
     fn note(&mut self, alloc: Global, name: &Name, at: PhraseAt) -> Result<(), OutOfMemory>
-        ensures { OnOk result (AddsNames (name.now ∷ []) at self.old self.new) }
+        ensures { OnOk result (AddsUnderNames (name.now ∷ []) at self.old.uses self.new.uses) }
     {
         if let Some(places) = self.places.get_mut(name) {
             places.push(at)?;
@@ -244,5 +188,124 @@ impl Uses {
         let places = MentionList::of(alloc, at)?;
         self.places.insert(name.copy(), places)?;
         Ok(())
+    }
+}
+
+impl Uses {
+    /// What is noted under each name once phrases went from these places and came to those, each in order: the names
+    /// alone under which other places are noted then.
+    pub(crate) fn mended(
+        &self,
+        alloc: Global,
+        went: &Uses,
+        came: &Uses,
+    ) -> Result<Uses, OutOfMemory>
+        requires kept { AreOrdered self.now.uses }
+        requires went { AreOrdered went.now.uses }
+        requires came { AreOrdered came.now.uses }
+        ensures { IfOk result (λ mended. (name : List ℕ)
+            → IsNameMended self.now.uses went.now.uses came.now.uses mended.uses name) }
+    {
+        let mut mended = Uses::new(alloc);
+        mended.mend_names(alloc, went, self, went, came)?;
+        mended.mend_names(alloc, came, self, went, came)?;
+        Ok(mended)
+    }
+
+    /// Notes what is left of the uses of each name under which something is noted in these, once phrases went and
+    /// came.
+    fn mend_names(
+        &mut self,
+        alloc: Global,
+        names: &Uses,
+        before: &Uses,
+        went: &Uses,
+        came: &Uses,
+    ) -> Result<(), OutOfMemory>
+        requires before { AreOrdered before.now.uses }
+        requires went { AreOrdered went.now.uses }
+        requires came { AreOrdered came.now.uses }
+        ensures { OnOk result (MendsNames (λ name. list_any (bytes_eq name) (keys_of names.now.uses))
+            before.now.uses went.now.uses came.now.uses self.old.uses self.new.uses) }
+    {
+        for k in 0..names.len() {
+            self.mend(alloc, names.name(k), before, went, came)?;
+        }
+        Ok(())
+    }
+
+    /// Notes what is left of the uses of the name once phrases went and came, if that is something else and wasn't
+    /// noted yet.
+    fn mend(
+        &mut self,
+        alloc: Global,
+        name: &Name,
+        before: &Uses,
+        went: &Uses,
+        came: &Uses,
+    ) -> Result<(), OutOfMemory>
+        requires before { AreOrdered before.now.uses }
+        requires went { AreOrdered went.now.uses }
+        requires came { AreOrdered came.now.uses }
+        ensures { OnOk result (MendsNames (bytes_eq name.now)
+            before.now.uses went.now.uses came.now.uses self.old.uses self.new.uses) }
+    {
+        if self.has(name) {
+            return Ok(());
+        }
+        let mended = MentionList::mended(
+            alloc,
+            before.under(name),
+            went.under(name),
+            came.under(name),
+        )?;
+        match mended {
+            None => Ok(()),
+            Some(places) => {
+                self.places.insert(name.copy(), places)?;
+                Ok(())
+            }
+        }
+    }
+
+    /// Makes room for so many more names.
+    pub(crate) fn reserve(&mut self, names: usize) -> Result<(), OutOfMemory>
+        ensures same { self.new.uses ≡ self.old.uses }
+        ensures kept { self.old.spare ≤ self.new.spare }
+        ensures room { OnOk result (names ≤ self.new.spare) }
+    {
+        self.places.reserve(names)?;
+        Ok(())
+    }
+
+    /// Notes what is noted in the other ones under each of their names, in place of what was. It takes no memory.
+    pub(crate) fn put_in_place(&mut self, other: Uses)
+        requires room { length other.uses ≤ self.old.spare }
+        ensures { (name : List ℕ) → mentions_of name self.new.uses
+            ≡ changed_or (lookup (bytes_eq name) other.uses) (mentions_of name self.old.uses) }
+    {
+        let Uses { places } = other;
+        let mut rest = places;
+        while let Some((name, list)) = rest.pop() {
+            self.put(name, list);
+        }
+    }
+
+    /// Notes these places under the name, in place of those that were; nothing more is noted where there are none. It
+    /// takes no memory.
+    fn put(&mut self, name: Name, list: MentionList)
+        requires room { 0 < self.old.spare }
+        ensures updates { (other : List ℕ) → mentions_of other self.new.uses
+            ≡ (if bytes_eq name other then list else mentions_of other self.old.uses) }
+        ensures room { self.old.spare ≤ self.new.spare + 1 }
+    {
+        if list.is_empty() {
+            let _ = self.places.swap_remove(&name);
+            return;
+        }
+        match self.places.insert(name, list) {
+            Ok(_) => {}
+            Err(_) => unreachable!(),
+        }
     }
 }

@@ -84,7 +84,7 @@ fn code_of<W: Work>(
 ) -> Result<FlatCode<W>, OutOfMemory>
     requires tree { IsTree tree.now }
     requires decls { IsDeclsOf decls.now tree.now.items }
-    requires marks { MarksTell (offences marks.now) tree.now.items }
+    requires marks { MarksTell (offences marks.now.verdicts) tree.now.items }
     ensures code { IfOk result (λ code. IsCodeOf tree.now code) }
     ensures counted { OnOk result (Emits (length (program_code tree.now.items).instrs)
         (W.counts work.old) (W.counts work.new)) }

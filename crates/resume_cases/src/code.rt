@@ -42,7 +42,7 @@ fn code_under(
     decls: &Decls,
 ) -> Option<FlatCode<Counts>>
     requires tree { IsTree tree.now }
-    requires marks { MarksTell (offences marks.now) tree.now.items }
+    requires marks { MarksTell (offences marks.now.verdicts) tree.now.items }
     requires decls { IsDeclsOf decls.now tree.now.items }
     ensures { IfSome result (IsTreesCode tree.now) }
 {

@@ -73,7 +73,7 @@ fn ask_under(
 ) -> Option<()>
     requires tree { IsTree tree.now }
     requires decls { IsDeclsOf decls.now tree.now.items }
-    requires marks { MarksTell (offences marks.now) tree.now.items }
+    requires marks { MarksTell (offences marks.now.verdicts) tree.now.items }
 {
     let mut work = Counts::default();
     let code = generated(told.alloc(), tree, decls, marks, &mut work)?;
@@ -93,7 +93,7 @@ fn generated(
 ) -> Option<FlatCode<Counts>>
     requires tree { IsTree tree.now }
     requires decls { IsDeclsOf decls.now tree.now.items }
-    requires marks { MarksTell (offences marks.now) tree.now.items }
+    requires marks { MarksTell (offences marks.now.verdicts) tree.now.items }
     ensures { IfSome result (λ code. IsProgramCode code) }
 {
     match generate(alloc, tree, marks, decls, work) {

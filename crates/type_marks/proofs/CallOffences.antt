@@ -11,7 +11,7 @@ use Rattle.template_tree.specs.Checks.Environment.{Sig, Signature, items_inside,
 use Rattle.template_tree.specs.Programs.PlainTree.{Forest, PlainNode}
 use Rattle.template_tree.specs.Programs.Slots.{times}
 use Rattle.template_tree.specs.Checks.Verdict.{call_offence, kinds_of, offence_in}
-use Rattle.type_marks.specs.Agreement.{KnowsHeading, KnowsItems, KnowsParameters, heading_parameters, parameter_names}
+use Rattle.decl_table.specs.Knowledge.{KnowsHeading, KnowsItems, KnowsParameters, heading_parameters, parameter_names}
 use Rattle.type_marks.specs.Private.CallArguments.{arguments_judged}
 use Rattle.type_marks.proofs.CalledProcedures.{AreFound, are_found, called, kinds_of_parameters, right_count, signature_is, wrong_count}
 use Rattle.type_marks.proofs.FoundArguments.{kinds_length}

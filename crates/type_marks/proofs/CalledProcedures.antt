@@ -10,7 +10,7 @@ use Rattle.template_tree.specs.Checks.Verdict.{arguments_offence, call_offence, 
 use Rattle.plcs_base.specs.declared.declared.Declared.{Declared}
 use Rattle.plcs_base.specs.declared.mark.MarkKind.{MarkKind}
 use Rattle.plcs_base.specs.declared.value.Kind.{Kind}
-use Rattle.type_marks.specs.Agreement.{heading_parameters}
+use Rattle.decl_table.specs.Knowledge.{heading_parameters}
 use Rattle.type_marks.specs.Private.CallArguments.{arguments_judged}
 
 -- a signature is that of the node's heading

@@ -14,7 +14,7 @@ use Rattle.plcs_grammar.specs.PlainPhrase.{PlainPhrase}
 use Rattle.template_tree.specs.Checks.Environment.{procedure_at}
 use Rattle.template_tree.specs.Programs.Limit.{most_slots}
 use Rattle.template_tree.specs.Programs.Program.{IsSubtree}
-use Rattle.type_marks.specs.Agreement.{Stands}
+use Rattle.decl_table.specs.Knowledge.{Stands}
 use Rattle.type_marks.specs.Private.DeclaredItems.{IsListIn}
 use Rattle.type_marks.specs.Private.MarksView.{IsIn, IsProcedureItem, procedure_item_on}
 use Rattle.type_marks.proofs.PlacedVerdicts.{no_verdict, verdict_at}

@@ -56,7 +56,7 @@ two_parts (place ∷ (size ∷ [])) (suc (suc k)) items are is = let absent = no
 two_parts (place ∷ (size ∷ (other ∷ parts))) part items are is = absurd are.1.1
 
 -- so it lists what its node declares
-lists : (kind : NodeKind) (parts : List (Option PlainPhrase)) (part : ℕ) (items : List Item) → AreParts (parts_of (row_of kind).line) parts
+pub lists : (kind : NodeKind) (parts : List (Option PlainPhrase)) (part : ℕ) (items : List Item) → AreParts (parts_of (row_of kind).line) parts
     → part_at parts part ≡ Some (PlainPhrase.declared_list items)
     → with_type (type_given kind parts) items ≡ with_type (type_given kind parts) (list_items parts)
 lists NodeKind.DeclarationHole parts part items are is = refl

@@ -20,7 +20,7 @@ use Rattle.template_tree.specs.Checks.Marks.{surroundings}
 use Rattle.template_tree.specs.Checks.Mention.{mentioned, names_in, names_in_all, reference_names}
 use Rattle.template_tree.specs.Programs.PlainTree.{Forest, PlainNode}
 use Rattle.template_tree.specs.Checks.Verdict.{array_kind, both_found, builtin_found, call_offence, cell_found, infix_found, kind_of, kinds_of, name_kind, of_kind, offence_in, parameter_offence, parameters_offence, reference_kind, references_offence, scalar_found, then_found, verdict}
-use Rattle.type_marks.specs.Agreement.{KnowsItems}
+use Rattle.decl_table.specs.Knowledge.{KnowsItems}
 use Rattle.type_marks.specs.Private.MarksView.{known_surroundings}
 
 -- two lists of items agree on the names
@@ -37,19 +37,19 @@ module _ (items others : List Declared) where
   on_rest name names agree other there = agree other (or_right (bytes_eq other name) (list_any (bytes_eq other) names) there)
 
   -- they agree on the names in front, and on those behind them
-  on_front : (front behind : List (List ℕ)) → Agree items others (front ++ behind) → Agree items others front
+  pub on_front : (front behind : List (List ℕ)) → Agree items others (front ++ behind) → Agree items others front
   on_front front behind agree name there =
       agree name
       (list_any-append (bytes_eq name) front behind ∙ or_left (list_any (bytes_eq name) front) (list_any (bytes_eq name) behind) there)
 
-  on_behind : (front behind : List (List ℕ)) → Agree items others (front ++ behind) → Agree items others behind
+  pub on_behind : (front behind : List (List ℕ)) → Agree items others (front ++ behind) → Agree items others behind
   on_behind front behind agree name there =
       agree name
       (list_any-append (bytes_eq name) front behind ∙ or_right (list_any (bytes_eq name) front) (list_any (bytes_eq name) behind) there)
 
   -- ---- names, expressions and variables
 
-  same_name : (name : List ℕ) → item_named name items ≡ item_named name others → name_kind items name ≡ name_kind others name
+  pub same_name : (name : List ℕ) → item_named name items ≡ item_named name others → name_kind items name ≡ name_kind others name
   same_name name is =
       ap (λ (o : Option Declared). then_found (cond (is_builtin_name name) (Err MarkKind.Reserved) (ok_or o MarkKind.Undeclared)) scalar_found) is
 
@@ -86,7 +86,7 @@ module _ (items others : List Declared) where
 
   -- ---- lists of variables and of parameters
 
-  same_references : (references : List PlainVarRef) → Agree items others (flat_map reference_names references)
+  pub same_references : (references : List PlainVarRef) → Agree items others (flat_map reference_names references)
       → references_offence items references ≡ references_offence others references
   same_references [] agree = refl
   same_references (reference ∷ rest) agree =
@@ -97,7 +97,7 @@ module _ (items others : List Declared) where
       ∙ ap (λ o. option_or (offence_in (reference_kind others reference)) o)
       (same_references rest (on_behind (reference_names reference) (flat_map reference_names rest) all))
 
-  same_parameters : (all names : List (List ℕ)) → Agree items others names → parameters_offence items all names ≡ parameters_offence others all names
+  pub same_parameters : (all names : List (List ℕ)) → Agree items others names → parameters_offence items all names ≡ parameters_offence others all names
   same_parameters all [] agree = refl
   same_parameters all (name ∷ rest) agree =
       ap (λ (o : Option Declared).

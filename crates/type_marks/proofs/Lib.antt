@@ -28,3 +28,25 @@ mod CheckedPlaces
 mod CallOffences
 -- the items of a declared list: `declared_offence`
 mod DeclaredOffences
+-- a phrase that isn't due for a check after an edit keeps its verdict: `verdicts_stay_unless_due`, `Marks::prepare`
+mod AgreedVerdicts
+mod FoundPhrases
+mod PhrasePlaces
+mod SlotNodes
+mod EditedHeadings
+mod EditedDeclarations
+mod RoomlessPrograms
+mod StayingVerdicts
+mod SparedPhrases
+mod StableEquations
+mod UndueVerdicts
+-- the verdicts with a prepared edit: `Marks::prepare`
+mod DuePhrases
+mod GonePhrases
+mod PreparedMarks
+-- declared lists that are due: `due_verdict`
+mod ListedVerdicts
+-- phrases that are due, one after the other, and verdicts that come and go: `check_due`, `Marks::commit`
+mod CheckedDue
+-- the marks of an edited tree: `MarksAfter::mark`
+mod AfterMarks

@@ -21,7 +21,7 @@ use Rattle.template_tree.specs.Checks.Mention.{phrase_at}
 use Rattle.template_tree.specs.Programs.PlainTree.{Forest, PlainNode, forest, forest_nodes, nodes}
 use Rattle.template_tree.specs.Checks.Verdict.{Surroundings, verdict}
 use Rattle.plcs_grammar.specs.PlainPhrase.{PlainPhrase}
-use Rattle.type_marks.specs.Private.MarksView.{with_all}
+use Rattle.type_marks.specs.MarkEdit.{with_all}
 
 -- what follows where it is Ok
 pub then_ok : {T E : Type 0} (r : Result T E) {P Q : Type 0} → (P → Q) → OnOk r P → OnOk r Q

@@ -50,7 +50,7 @@ ties at slot part = sym (place_ties at (phrase_at slot part))
 
 module _ (s : Surroundings) (at : PhraseAt) (slot : ℕ) where
   -- nothing is found in another slot
-  other_slot : at.slot.0 ≢ slot → (part : ℕ) (parts : List (Option PlainPhrase)) → find phrase_cmp at (part_verdicts s slot part parts) ≡ None
+  pub other_slot : at.slot.0 ≢ slot → (part : ℕ) (parts : List (Option PlainPhrase)) → find phrase_cmp at (part_verdicts s slot part parts) ≡ None
   other_slot apart part [] = refl
   other_slot apart part (None ∷ parts) = other_slot apart (part + 1) parts
   other_slot apart part (Some phrase ∷ parts) =
@@ -72,7 +72,7 @@ module _ (s : Surroundings) (at : PhraseAt) (slot : ℕ) where
       none false = refl
 
   -- the verdict of the phrase in the part
-  own_part : at.slot.0 ≡ slot → (part k : ℕ) (parts : List (Option PlainPhrase)) → at.part ≡ part + k
+  pub own_part : at.slot.0 ≡ slot → (part k : ℕ) (parts : List (Option PlainPhrase)) → at.part ≡ part + k
       → find phrase_cmp at (part_verdicts s slot part parts) ≡ option_map (verdict s) (part_at parts k)
   own_part own part k [] is = none k
     where

@@ -12,7 +12,7 @@ use Rattle.template_tree.specs.Programs.PlainTree.{Forest, PlainNode, PlainTree,
 use Rattle.template_tree.specs.Programs.Program.{IsSubtree}
 use Rattle.template_tree.specs.Programs.Slots.{count, times}
 use Rattle.template_tree.specs.Programs.Tree.{IsTree}
-use Rattle.type_marks.specs.Agreement.{Knows}
+use Rattle.decl_table.specs.Knowledge.{Knows}
 use Rattle.type_marks.specs.Private.MarksView.{AreListed, IsIn, IsProcedureItem}
 use Rattle.type_marks.proofs.DeclaredLists.{are_listed}
 use Rattle.type_marks.proofs.CalledProcedures.{one_if}
@@ -29,14 +29,14 @@ knows decls program are procedure phrase =
 
 -- ---- one of the items
 
-own_slot : (node : PlainNode) → 1 ≤ times node.label.slot (forest (node ∷ []))
+pub own_slot : (node : PlainNode) → 1 ≤ times node.label.slot (forest (node ∷ []))
 own_slot node =
     let yes : nat_eq node.label.slot node.label.slot ≡ true = grind (arith, nat_tests) in
     let one : one_if (nat_eq node.label.slot node.label.slot) ≡ 1 = ap one_if yes in
     omega (arith, one)
 
 -- a slot stands in an item no more often than in the program
-times_item : (items : Forest) (k : ℕ) (node : PlainNode) (slot : ℕ) → slice_get (nodes items) k ≡ Some node
+pub times_item : (items : Forest) (k : ℕ) (node : PlainNode) (slot : ℕ) → slice_get (nodes items) k ≡ Some node
     → times slot (forest (node ∷ [])) ≤ times slot items
 times_item Forest.nil zero node slot there = absurd (cc)
 times_item Forest.nil (suc k) node slot there = absurd (cc)
@@ -46,7 +46,7 @@ times_item (Forest.cons label inner rest) zero node slot there =
 times_item (Forest.cons label inner rest) (suc k) node slot there = omega (arith, times_item rest k node slot there)
 
 -- an item is found by its slot
-found_item : (items : Forest) (k : ℕ) (node : PlainNode) → slice_get (nodes items) k ≡ Some node → times node.label.slot items ≤ 1
+pub found_item : (items : Forest) (k : ℕ) (node : PlainNode) → slice_get (nodes items) k ≡ Some node → times node.label.slot items ≤ 1
     → procedure_at items node.label.slot ≡ Some node
 found_item Forest.nil zero node there once = absurd (cc)
 found_item Forest.nil (suc k) node there once = absurd (cc)

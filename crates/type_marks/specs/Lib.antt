@@ -1,4 +1,6 @@
--- ---- what a table has to know where a phrase is checked
-pub mod Agreement
+-- ---- verdicts that are kept, and what a prepared edit makes of them
+pub mod PlainMarks
+pub mod MarkEdit
+pub mod VerdictLaws
 -- ---- what private contracts alone cite
 pub mod Private

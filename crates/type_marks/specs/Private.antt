@@ -10,3 +10,4 @@ pub mod CallArguments
 pub mod DeclaredItems
 -- ---- what verdicts and marks are in memory, and how they are noted
 pub mod MarksView
+pub mod CheckedLists

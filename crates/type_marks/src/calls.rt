@@ -6,15 +6,14 @@ ghost use Rattle.template_tree.specs.Checks.Environment.{Sig, parameter_kind, pa
 ghost use Rattle.template_tree.specs.Checks.Marks.{procedures_before};
 ghost use Rattle.template_tree.specs.Programs.Tree.{IsTree};
 ghost use Rattle.template_tree.specs.Checks.Verdict.{call_offence, kinds_of, offence_in, procedure_offence};
-ghost use Rattle.type_marks.specs.Agreement.{KnowsHeading, KnowsParameters};
+ghost use Rattle.decl_table.specs.Knowledge.{KnowsHeading, KnowsParameters};
 ghost use Rattle.type_marks.specs.Private.CallArguments.{arguments_judged, is_taken};
 
 use crate::kind_table::same_kind;
 use crate::kinds::kind_of;
-use crate::names::kind_of_type;
 use crate::procedures::{called_parameters, is_named_before, procedure_in};
 use crate::statements::exprs_offence;
-use decl_table::Decls;
+use decl_table::{Decls, kind_of_type};
 use plcs_base::{Kind, MarkKind, Name, Slot};
 use plcs_grammar::{Builtin, Expr};
 use template_tree::Tree;

@@ -1,6 +1,6 @@
 //! The verdicts of all phrases of a program.
-ghost use Rattle.std.specs.Prelude.{◌≡◌, ◌∷◌, ◌<◌, [], IfOk, OnOk, drop, length, option_map};
-ghost use Rattle.std.specs.FinMap.{get, insert};
+ghost use Rattle.std.specs.Prelude.{◌≡◌, ◌∷◌, ◌+◌, ◌<◌, ◌≤◌, [], IfOk, OnOk, drop, length, option_map};
+ghost use Rattle.std.specs.FinMap.{get, insert, remove};
 ghost use Rattle.plcs_base.specs.PlainCounts.{ChecksAtMost};
 ghost use Rattle.decl_table.specs.Agreement.{IsDeclsOf};
 ghost use Rattle.template_tree.specs.Programs.Limit.{most_slots};
@@ -10,7 +10,8 @@ ghost use Rattle.template_tree.specs.Programs.Program.{IsSubtree};
 ghost use Rattle.template_tree.specs.Checks.ProgramMaps.{MarksTell};
 ghost use Rattle.template_tree.specs.Programs.Slots.{count};
 ghost use Rattle.template_tree.specs.Programs.Tree.{IsTree};
-ghost use Rattle.type_marks.specs.Private.MarksView.{AreListed, IsIn, IsProcedureItem, with_all};
+ghost use Rattle.type_marks.specs.MarkEdit.{with_all, without_all};
+ghost use Rattle.type_marks.specs.Private.MarksView.{AreListed, IsIn, IsProcedureItem};
 
 use crate::procedures::procedure_item;
 use crate::verdict::{Verdict, checked};
@@ -21,36 +22,38 @@ use std::alloc::Global;
 use std::marker::Model;
 use template_tree::{Node, PhrasePlace, Tree, items_are_nodes};
 
-/// The verdicts of a program's phrases by their places, which contracts see as a finite map.
+/// The verdicts of a program's phrases by their places, which contracts see as a finite map, with how many new ones
+/// there is room for.
 #[derive(Drop)]
 pub struct Marks<W> {
-    verdicts: IndexMap<PhraseAt, Verdict<W>>,
+    pub(crate) verdicts: IndexMap<PhraseAt, Verdict<W>>,
 }
 
 impl<W> Model for Marks<W> {
     ghost use Rattle.std.specs.FinMap.{from_entries};
-    ghost use Rattle.template_tree.specs.Checks.Marks.{VerdictMap};
-    ghost use Rattle.type_marks.specs.Private.MarksView.{verdicts_code};
+    ghost use Rattle.indexmap.specs.IndexMap.{spare};
+    ghost use Rattle.type_marks.specs.PlainMarks.{PlainMarks};
+    ghost use Rattle.type_marks.specs.Private.MarksView.{marks_code};
 
-    ghost Value = { VerdictMap };
+    ghost Value = { PlainMarks };
 
-    ghost coded = { verdicts_code };
+    ghost coded = { marks_code };
 
-    ghost view = { λ a. from_entries a.verdicts.entries };
+    ghost view = { λ a. record { verdicts = from_entries a.verdicts.entries; spare = spare a.verdicts } };
 }
 
 impl<W> Marks<W> {
     /// The verdict that was made of the phrase at the place, or `None` exactly where no phrase stands
     /// there. It takes no memory.
     pub fn verdict(&self, at: PhraseAt) -> Option<&Verdict<W>>
-        ensures { option_map (λ verdict. verdict.now) result ≡ get self.now at }
+        ensures { option_map (λ verdict. verdict.now) result ≡ get self.now.verdicts at }
     {
         self.verdicts.get(&at)
     }
 }
 
 impl<W> Marked for Marks<W> {
-    ghost marks = { λ verdicts. offences verdicts };
+    ghost marks = { λ marks. offences marks.verdicts };
 
     fn mark(&self, at: PhraseAt) -> Option<MarkKind> {
         match self.verdict(at) {
@@ -70,8 +73,8 @@ impl<W: Work> Marks<W> {
     ) -> Result<Marks<W>, OutOfMemory>
         requires tree { IsTree tree.now }
         requires decls { IsDeclsOf decls.now tree.now.items }
-        ensures verdicts { IfOk result (λ marks. marks ≡ Verdicts tree.now.items) }
-        ensures marks { IfOk result (λ marks. MarksTell (offences marks) tree.now.items) }
+        ensures verdicts { IfOk result (λ marks. marks.verdicts ≡ Verdicts tree.now.items) }
+        ensures marks { IfOk result (λ marks. MarksTell (offences marks.verdicts) tree.now.items) }
         ensures counts { ChecksAtMost (length (procedure_verdicts tree.now.items tree.now.items)) (W.counts work.old)
             (W.counts work.new) }
     {
@@ -108,8 +111,8 @@ impl<W: Work> Marks<W> {
         requires inside { IsIn procedure.now node.now }
         requires subtree { IsSubtree node.now }
         requires few { count node.now.inner < most_slots }
-        ensures noted { OnOk result (self.new ≡ with_all
-            (node_verdicts tree.now.items procedure.now (forest (node.now ∷ []))) self.old) }
+        ensures noted { OnOk result (self.new.verdicts ≡ with_all
+            (node_verdicts tree.now.items procedure.now (forest (node.now ∷ []))) self.old.verdicts) }
         ensures counts { ChecksAtMost (length (node_verdicts tree.now.items procedure.now (forest (node.now ∷ []))))
             (W.counts work.old) (W.counts work.new) }
     {
@@ -142,9 +145,9 @@ impl<W: Work> Marks<W> {
         requires item { IsProcedureItem tree.now.items procedure.now }
         requires listed { AreListed procedure.now.inner node.now.label }
         requires few { length node.now.label.parts < 256 }
-        ensures noted { OnOk result (self.new ≡ with_all
+        ensures noted { OnOk result (self.new.verdicts ≡ with_all
             (part_verdicts (surroundings tree.now.items procedure.now node.now.label.slot) node.now.label.slot part
-            (drop part node.now.label.parts)) self.old) }
+            (drop part node.now.label.parts)) self.old.verdicts) }
         ensures counts { ChecksAtMost (length
             (part_verdicts (surroundings tree.now.items procedure.now node.now.label.slot) node.now.label.slot part
             (drop part node.now.label.parts))) (W.counts work.old) (W.counts work.new) }
@@ -167,9 +170,61 @@ impl<W: Work> Marks<W> {
 
     /// Notes the verdict of the one phrase at the place.
     fn note(&mut self, at: PhraseAt, verdict: Verdict<W>) -> Result<(), OutOfMemory>
-        ensures { OnOk result (self.new ≡ insert self.old at verdict) }
+        ensures { OnOk result (self.new.verdicts ≡ insert self.old.verdicts at verdict) }
     {
         self.verdicts.insert(at, verdict)?;
         Ok(())
+    }
+}
+
+impl<W> Marks<W> {
+    /// Makes room for so many more verdicts.
+    pub(crate) fn reserve(&mut self, verdicts: usize) -> Result<(), OutOfMemory>
+        ensures same { self.new.verdicts ≡ self.old.verdicts }
+        ensures room { OnOk result (verdicts ≤ self.new.spare) }
+    {
+        self.verdicts.reserve(verdicts)?;
+        Ok(())
+    }
+
+    /// Takes the verdicts of the phrases at these places out.
+    pub(crate) fn take_out(&mut self, gone: &[PhraseAt])
+        ensures verdicts { self.new.verdicts ≡ without_all gone.now self.old.verdicts }
+        ensures room { self.old.spare ≤ self.new.spare }
+    {
+        for at in gone {
+            self.take(*at);
+        }
+    }
+
+    /// Takes the verdict of the phrase at the place out, if it is there.
+    fn take(&mut self, at: PhraseAt)
+        ensures verdicts { self.new.verdicts ≡ remove self.old.verdicts at }
+        ensures room { self.old.spare ≤ self.new.spare }
+    {
+        let _ = self.verdicts.swap_remove(&at);
+    }
+
+    /// Puts verdicts in that were made of phrases. It takes no memory.
+    pub(crate) fn put_in(&mut self, checked: IndexMap<PhraseAt, Verdict<W>>)
+        requires room { length checked.entries ≤ self.old.spare }
+        ensures { self.new.verdicts ≡ with_all checked.entries self.old.verdicts }
+    {
+        let mut rest = checked;
+        while let Some((at, verdict)) = rest.pop() {
+            self.put(at, verdict);
+        }
+    }
+
+    /// Puts the verdict of the phrase at the place in. It takes no memory.
+    fn put(&mut self, at: PhraseAt, verdict: Verdict<W>)
+        requires room { 0 < self.old.spare }
+        ensures verdicts { self.new.verdicts ≡ insert self.old.verdicts at verdict }
+        ensures room { self.old.spare ≤ self.new.spare + 1 }
+    {
+        match self.verdicts.insert(at, verdict) {
+            Ok(_) => {}
+            Err(_) => unreachable!(),
+        }
     }
 }

@@ -1,11 +1,11 @@
 //! The kinds of names where variables are used, as scalars and as arrays.
 ghost use Rattle.std.specs.Prelude.{◌≡◌, option_and_then};
 ghost use Rattle.template_tree.specs.Checks.ProgramMaps.{items_in};
-ghost use Rattle.template_tree.specs.Checks.Environment.{item_named, kind_of_type, scalar_kind};
+ghost use Rattle.template_tree.specs.Checks.Environment.{item_named, scalar_kind};
 ghost use Rattle.template_tree.specs.Checks.Verdict.{array_kind, cell_found, item_found, name_kind, scalar_found};
 
-use decl_table::Decls;
-use plcs_base::{Declared, ItemType, Kind, MarkKind, Name, Slot};
+use decl_table::{Decls, kind_of_type};
+use plcs_base::{Declared, Kind, MarkKind, Name, Slot};
 use plcs_grammar::Builtin;
 
 /// The kind of a name without a subscript, or what is wrong with it.
@@ -83,16 +83,5 @@ fn scalar_kind(item: &Declared) -> Option<Kind>
         Some(kind_of_type(item.ty))
     } else {
         None
-    }
-}
-
-/// The kind of a name whose item has the type.
-pub(crate) fn kind_of_type(ty: ItemType) -> Kind
-    ensures { result ≡ kind_of_type ty }
-{
-    match ty {
-        ItemType::Fixed => Kind::Fixed,
-        ItemType::Bit => Kind::Bit,
-        ItemType::Text(_) => Kind::Text,
     }
 }

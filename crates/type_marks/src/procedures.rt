@@ -7,7 +7,7 @@ ghost use Rattle.template_tree.specs.Programs.PlainTree.{nodes};
 ghost use Rattle.template_tree.specs.Programs.Program.{IsSubtree};
 ghost use Rattle.template_tree.specs.Programs.Slots.{count};
 ghost use Rattle.template_tree.specs.Programs.Tree.{IsTree};
-ghost use Rattle.type_marks.specs.Agreement.{heading_parameters};
+ghost use Rattle.decl_table.specs.Knowledge.{heading_parameters};
 ghost use Rattle.type_marks.specs.Private.MarksView.{procedure_item_on};
 
 use plcs_base::{Name, Slot};

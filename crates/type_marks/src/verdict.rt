@@ -10,7 +10,7 @@ ghost use Rattle.template_tree.specs.Programs.PlainTree.{PlainNode};
 ghost use Rattle.template_tree.specs.Programs.Slots.{count};
 ghost use Rattle.template_tree.specs.Programs.Tree.{IsTree};
 ghost use Rattle.template_tree.specs.Checks.Verdict.{verdict};
-ghost use Rattle.type_marks.specs.Agreement.{Knows, Stands};
+ghost use Rattle.decl_table.specs.Knowledge.{Knows, Stands};
 ghost use Rattle.type_marks.specs.Private.DeclaredItems.{IsListIn};
 ghost use Rattle.type_marks.specs.Private.MarksView.{known_surroundings};
 
@@ -103,8 +103,16 @@ pub(crate) fn checked<W: Work>(
     ensures verdict { result ≡ verdict (surroundings tree.now.items procedure.now slot.0) (plain_phrase phrase.now) }
     ensures counts { ChecksOne (W.counts work.old) (W.counts work.new) }
 {
-    work.checked();
     let offence = phrase_offence(tree, decls, procedure, slot, phrase);
+    counted(offence, work)
+}
+
+/// The verdict of a phrase whose first offence is this, if it has one, counted as one check.
+pub(crate) fn counted<W: Work>(offence: Option<MarkKind>, work: &mut W) -> Verdict<W>
+    ensures verdict { result ≡ offence }
+    ensures counts { ChecksOne (W.counts work.old) (W.counts work.new) }
+{
+    work.checked();
     Verdict {
         offence,
         of: PhantomData,

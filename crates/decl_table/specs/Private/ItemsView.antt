@@ -1,12 +1,10 @@
 -- What the effective items of a procedure are seen as, and what is kept of them.
-use Rattle.std.specs.Prelude.{◌≡◌, ◌≤◌, ℕ, List, map, bytes_eq}
+use Rattle.std.specs.Prelude.{ℕ, List, map, bytes_eq}
 use Rattle.std.specs.Coded.{Coded, coded_list}
 use Rattle.std.specs.List.{IsDistinct}
 use Rattle.std.specs.Map.{keys_of}
 use Rattle.plcs_base.specs.declared.declared.Declared.{Declared}
 use Rattle.plcs_base.specs.contracts.declared.Declared as declared_row
-use Rattle.template_tree.specs.Checks.Environment.{cells}
-use Rattle.template_tree.specs.Programs.Limit.{most_cells}
 use Rattle.decl_table.specs.declared.items.Shape.{Shape}
 use Rattle.decl_table.specs.declared.items.Items.TheInside.{Inside}
 
@@ -22,11 +20,9 @@ items_of entries = map (λ entry. shaped entry.0 entry.1) entries
 abbrev pub seen : Inside → List Declared
 seen a = items_of a.shapes.entries
 
--- what is kept of a procedure's effective items: no name stands twice, and the cells are counted and within the limit
+-- what is kept of effective items of a procedure: no name stands twice
 pub record IsKept (a : Inside) : Type 0 where
   pub once : IsDistinct bytes_eq (keys_of a.shapes.entries)
-  pub counted : a.cells ≡ cells (items_of a.shapes.entries)
-  pub few : a.cells ≤ most_cells
 
 -- how the effective items of a procedure, as they are seen, are told apart
 abbrev pub items_code : Coded (List Declared)

@@ -1,8 +1,10 @@
 -- What verdicts and marks in memory are seen as, and how verdicts are noted.
-use Rattle.std.specs.Prelude.{◌≡◌, ℕ, ◌<◌, ◌≤◌, List, [], ◌∷◌, Option, Some, None, slice_get}
-use Rattle.std.specs.Coded.{Coded, coded_option}
-use Rattle.std.specs.FinMap.{code, insert}
+use Rattle.std.specs.Prelude.{◌≡◌, ℕ, ◌<◌, ◌≤◌, List, [], ◌∷◌, Option, Some, None, slice_get, refl}
+use Rattle.std.specs.Coded.{Coded, code_by, coded×, coded_list, coded_option, coded_ℕ}
+use Rattle.std.specs.FinMap.{code}
+use Rattle.plcs_base.specs.Mark.{MarkMap}
 use Rattle.plcs_base.specs.declared.mark.MarkKind.{MarkKind}
+use Rattle.plcs_base.specs.declared.place.PhraseAt.{PhraseAt}
 use Rattle.plcs_base.specs.contracts.mark.MarkKind as mark_row
 use Rattle.plcs_base.specs.contracts.place.PhraseAt as place_row
 use Rattle.template_tree.specs.Checks.ProgramMaps.{items_in}
@@ -18,6 +20,8 @@ use Rattle.template_tree.specs.Programs.Slots.{count, times}
 use Rattle.plcs_grammar.specs.PlainPhrase.{PlainPhrase}
 use Rattle.type_marks.specs.Private.DeclaredItems.{IsListIn}
 use Rattle.template_tree.specs.Checks.Verdict.{Surroundings}
+use Rattle.type_marks.specs.MarkEdit.{PlainMarkEdit}
+use Rattle.type_marks.specs.PlainMarks.{PlainMarks}
 
 -- the code of a verdict
 abbrev pub verdict_code : Coded (Option MarkKind)
@@ -27,10 +31,25 @@ verdict_code = coded_option mark_row.the_row.coded
 abbrev pub verdicts_code : Coded VerdictMap
 verdicts_code = code place_row.the_row.coded verdict_code
 
--- the map of verdicts with these before what it has
-abbrev pub with_all : VerdictList → VerdictMap → VerdictMap
-with_all [] verdicts = verdicts
-with_all (entry ∷ entries) verdicts = insert (with_all entries verdicts) entry.0 entry.1
+-- the code of verdicts as they are kept
+abbrev pub marks_code : Coded PlainMarks
+marks_code =
+    code_by (VerdictMap × ℕ) (coded× verdicts_code coded_ℕ) (λ marks. (marks.verdicts, marks.spare))
+    (λ t. record { verdicts = t.0; spare = t.1 }) (λ _. refl)
+
+-- the code of a list of verdicts
+abbrev pub verdict_list_code : Coded VerdictList
+verdict_list_code = coded_list (coded× place_row.the_row.coded verdict_code)
+
+-- the code of an edit that was prepared for verdicts
+abbrev pub mark_edit_code : Coded PlainMarkEdit
+mark_edit_code =
+    code_by (VerdictList × List PhraseAt) (coded× verdict_list_code (coded_list place_row.the_row.coded))
+    (λ edit. (edit.verdicts, edit.gone)) (λ t. record { verdicts = t.0; gone = t.1 }) (λ _. refl)
+
+-- the code of marks of phrases
+abbrev pub mark_map_code : Coded MarkMap
+mark_map_code = code place_row.the_row.coded mark_row.the_row.coded
 
 -- the surroundings of a phrase of which a verdict is noted, with the items that a table has
 abbrev pub known_surroundings : PlainDecls → (program : Forest) (procedure : PlainNode) (slot : ℕ) → Surroundings
@@ -55,8 +74,8 @@ abbrev pub AreListed : (inner : Forest) → Label → Type 0
 AreListed inner label =
     (part : ℕ) (phrase : PlainPhrase) → part_at label.parts part ≡ Some phrase → IsListIn inner label.slot phrase
 
--- where a verdict is noted: main or the procedure to which the path of the phrase's node leads, or in which it leads to
--- that node
+-- where a verdict is noted: main or the procedure to which the path of the phrase's node leads, or in which it leads
+-- to that node
 abbrev pub procedure_item_on : (program : Forest) → (path : List ℕ) → Option PlainNode
 procedure_item_on program [] = None
 procedure_item_on program (k ∷ path) = slice_get (nodes program) k

@@ -9,7 +9,7 @@ use Rattle.std.proofs.Common.{◌∙◌}
 pub returns-clause-code : goal.returns-clause-code
 returns-clause-code g c =
     let tree = c.args.tree.now in
-    let marks = offences c.args.marks.now in
+    let marks = offences c.args.marks.now.verdicts in
     let items = c.args.decls.now.items in
     let own = c.programs_have_one_code.ensures.made tree.items marks items c.requires.marks c.requires.decls.items_are in
     IfOk-weaker c.generate.result _ _
@@ -26,7 +26,7 @@ returns-clause-code g c =
 pub returns-clause-counted : goal.returns-clause-counted
 returns-clause-counted g c =
     let tree = c.args.tree.now in
-    let marks = offences c.args.marks.now in
+    let marks = offences c.args.marks.now.verdicts in
     let items = c.args.decls.now.items in
     let own = c.programs_have_one_code.ensures.made tree.items marks items c.requires.marks c.requires.decls.items_are in
     subst (λ (code : PlainCode). OnOk c.generate.result (Emits (length code.instrs) (g.W.Work.counts c.args.work.now) (g.W.Work.counts c.generate.new.work)))

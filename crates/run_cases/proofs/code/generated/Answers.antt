@@ -5,7 +5,7 @@ pub returns-in-Ok : goal.returns-in-Ok
 returns-in-Ok c =
     record {
       tree = c.args.tree.now;
-      marks = offences c.args.marks.now;
+      marks = offences c.args.marks.now.verdicts;
       items = c.args.decls.now.items;
       is_tree = c.requires.tree;
       marks_tell = c.requires.marks;

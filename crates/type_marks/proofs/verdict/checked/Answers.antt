@@ -5,5 +5,6 @@ use Rattle.type_marks.proofs.verdict.checked.Goals as goal
 
 pub returns-clause-verdict : goal.returns-clause-verdict
 returns-clause-verdict g c =
-    c.phrase_offence-offence.ensures
+    c.counted.ensures.verdict
+    ∙ c.phrase_offence-offence.ensures
     ∙ same_verdict c.args.decls.now c.args.tree.now.items c.args.procedure.now c.args.slot.0 c.requires.there (plain_phrase c.args.phrase.now) c.requires.known.items

@@ -2,9 +2,11 @@ use Rattle.std.proofs.Common.{◌≡◌, ◌∙◌, ◌+◌, ◌-◌, ◌≤◌,
 use Rattle.std.proofs.Math.ListN.{drop_of_length-le}
 use Rattle.template_tree.specs.Positions.Path.{node_at}
 use Rattle.template_tree.specs.Programs.PlainTree.{Forest, forest, forest_nodes, nodes}
-use Rattle.decl_table.specs.PlainDecls.{PlainDecls}
+use Rattle.decl_table.specs.PlainDecls.{PlainDecls, PlainUses, mentions_of}
+use Rattle.decl_table.specs.Private.PlainNameNode.{kept_mentions, node_names}
+use Rattle.decl_table.specs.Private.UsesView.{IsSettled}
 use Rattle.plcs_base.specs.ListLeft.{left_from, past_where_none}
-use Rattle.decl_table.proofs.ReadProcedures.{IsRead, read_all, read_next, read_none}
+use Rattle.decl_table.proofs.ReadProcedures.{IsRead, read_all, read_next, read_none, root_few}
 use Rattle.decl_table.proofs.decls.Decls.new.Goals as goal
 
 pub overflow_add-k : goal.overflow_add-k
@@ -17,8 +19,8 @@ loop-k-init c =
     let past : length all ≤ c.procedures-k.result + 1 = omega (arith, c.procedures-k.ensures) in
     record {
       read =
-          subst (λ rest. IsRead record { items = c.new.result; headings = c.new-2.result; uses = c.new-3.result } (forest rest)) (sym (drop_of_length-le all past))
-          (read_none record { items = c.new.result; headings = c.new-2.result; uses = c.new-3.result } c.new.ensures c.new-2.ensures c.new-3.ensures);
+          subst (λ rest. IsRead c.none-decls.result (forest rest)) (sym (drop_of_length-le all past))
+          (read_none c.none-decls.result c.none-decls.ensures.items c.none-decls.ensures.headings);
       within = omega (arith, c.procedures-k.ensures);
     }
 
@@ -46,14 +48,22 @@ unreachable-requires c =
     sym (ap (node_at items) c.path_of_item.ensures ∙ c.items_are_nodes.ensures.found items (c.loop-k.k - 1)) ∙ sym c.in_default.ensures.found in
     omega (arith, past_where_none (nodes items) (c.loop-k.k - 1) none, c.loop-k-test.true, c.loop-k.invariant.within)
 
+pub of-requires : goal.of-requires
+of-requires c = record {
+  few =
+      root_few c.in_ok-names.names c.args.tree.now.items c.requires.tree.program.sound c.in_ok-names.ensures.inner
+      c.in_ok-names.ensures.parts;
+}
+
 pub returns : goal.returns
 returns c =
     let items = c.args.tree.now.items in
-    let inside = c.decls-2.inside in
-    let before : PlainDecls = record { items = inside.scopes; headings = inside.headings; uses = inside.uses } in
-    let after : PlainDecls = record { items = inside.scopes; headings = inside.headings; uses = c.settle.new.self } in
     let none : c.loop-k.k ≡ 0 = omega (arith, c.loop-k-test.false) in
-    let read : IsRead before items =
-    subst (λ decls. IsRead decls items) (sym c.decls-2.view_is)
-    (subst (IsRead c.loop-k.decls) (forest_nodes items) (subst (λ k. IsRead c.loop-k.decls (forest (drop k (nodes items)))) none c.loop-k.invariant.read)) in
-    read_all before items after read refl refl c.settle.ensures
+    let read : IsRead c.loop-k.decls items =
+    subst (IsRead c.loop-k.decls) (forest_nodes items) (subst (λ k. IsRead c.loop-k.decls (forest (drop k (nodes items)))) none c.loop-k.invariant.read) in
+    let made = c.with_names.result in
+    let is = c.with_names.ensures in
+    read_all c.loop-k.decls items made c.in_ok-names.names read (ap (λ (d : PlainDecls). d.items) is) (ap (λ (d : PlainDecls). d.headings) is)
+    (ap (λ (d : PlainDecls). d.names) is) c.in_ok-names.ensures.inner c.in_ok-names.ensures.parts
+    (λ name. subst (λ (uses : PlainUses). IsSettled (kept_mentions name (node_names c.in_ok-names.names)) (mentions_of name uses))
+    (sym (ap (λ (d : PlainDecls). d.uses) is)) (c.in_ok-uses.ensures name))

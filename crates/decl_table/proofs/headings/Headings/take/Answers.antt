@@ -2,7 +2,8 @@ use Rattle.std.proofs.Common.{◌∙◌, cond, Some, option_map, refl, sym, ap}
 use Rattle.std.specs.Prelude.{bytes_eq}
 use Rattle.std.specs.Option.{option_or}
 use Rattle.template_tree.specs.Checks.Environment.{Signature, heading_of, signature_for}
-use Rattle.decl_table.specs.PlainDecls.{PlainHeadings, slot_of}
+use Rattle.decl_table.specs.PlainDecls.{slot_of}
+use Rattle.decl_table.specs.Private.DeclsView.{RoomyHeadings}
 use Rattle.decl_table.proofs.TableMaps.{first, given}
 use Rattle.decl_table.proofs.headings.Headings.take.Goals as goal
 
@@ -18,4 +19,4 @@ returns c =
     ∙ ap (λ s. cond (bytes_eq key name) (Some s) (slot_of name old)) c.slot.ensures
     ∙ first (bytes_eq key name) node.label.slot (slot_of name old)
     ∙ ap (λ o. option_or o (slot_of name old)) (sym (given node key (heading_of node.label.kind node.label.parts) refl c.in-Some.ensures called name))
-    ∙ ap (λ (headings : PlainHeadings). option_or (option_map (λ (s : Signature). s.slot) (signature_for name node)) (slot_of name headings)) c.self.view_is
+    ∙ ap (λ (all : RoomyHeadings). option_or (option_map (λ (s : Signature). s.slot) (signature_for name node)) (slot_of name all.headings)) c.self.view_is

@@ -8,7 +8,7 @@ use Rattle.decl_table.proofs.items.Items.of.Goals as goal
 
 pub loop-node-init : goal.loop-node-init
 loop-node-init c = record {
-  made = rw (c.new-items.ensures, forest_nodes c.args.procedure.now.inner) refl;
+  made = rw (c.new-fold.ensures, forest_nodes c.args.procedure.now.inner) refl;
   within = omega arith;
 }
 
@@ -29,15 +29,16 @@ loop-node-preserved c =
     let within = slice_get_within all c.loop-node.k c.in-Some.node.now (sym c.in-Some.ensures) in
     record {
       made =
-          ap (λ items. effective items rest) c.in_ok-declare_all.ensures
-          ∙ sym (effective_append c.loop-node.items (declares c.in-Some.node.now.label) rest)
-          ∙ ap (λ left. effective c.loop-node.items (all_declared (forest left))) (sym (left_from all c.loop-node.k c.in-Some.node.now (sym c.in-Some.ensures)))
+          ap (λ items. effective items rest) c.in_ok-declare_all.ensures.items
+          ∙ sym (effective_append c.loop-node.fold (declares c.in-Some.node.now.label) rest)
+          ∙ ap (λ left. effective c.loop-node.fold (all_declared (forest left))) (sym (left_from all c.loop-node.k c.in-Some.node.now (sym c.in-Some.ensures)))
           ∙ c.loop-node.invariant.made;
       within = omega (arith, within);
     }
 
 pub returns : goal.returns
 returns c =
-    ap (λ left. effective c.loop-node.items (all_declared (forest left)))
+    c.end.ensures
+    ∙ ap (λ left. effective c.loop-node.fold (all_declared (forest left)))
     (sym (none_left (nodes c.args.procedure.now.inner) c.loop-node.k (sym c.in_default.ensures)))
     ∙ c.loop-node.invariant.made

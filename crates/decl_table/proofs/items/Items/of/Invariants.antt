@@ -8,6 +8,6 @@ decreases-loop-node l = length (nodes l.procedure.inner) - l.k
 
 abbrev pub invariant-loop-node : goal.invariant-loop-node
 invariant-loop-node l = record {
-  made : effective l.items (all_declared (forest (drop l.k (nodes l.procedure.inner)))) ≡ items_inside l.procedure.inner;
+  made : effective l.fold (all_declared (forest (drop l.k (nodes l.procedure.inner)))) ≡ items_inside l.procedure.inner;
   within : l.k ≤ length (nodes l.procedure.inner);
 }

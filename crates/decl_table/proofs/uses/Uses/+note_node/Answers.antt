@@ -1,60 +1,55 @@
-use Rattle.std.proofs.Common.{◌≡◌, ◌+◌, ◌∷◌, Some, [], drop, slice_get, sym, ap, subst, arith}
-use Rattle.std.proofs.lemmas.Option.{slice_get_within}
-use Rattle.template_tree.specs.Programs.PlainTree.{forest, forest_nodes, nodes}
-use Rattle.decl_table.proofs.AddedUses.{Leaves, leaves_all, leaves_next, leaves_none, of_node, of_nodes, of_nodes-first, of_parts}
-use Rattle.plcs_base.specs.ListLeft.{left_from, none_left}
+-- With what the nodes that are left add, all is noted that the nodes add; a node adds its parts and what stands inside it.
+use Rattle.std.proofs.Common.{◌≡◌, ◌+◌, ◌<◌, Some, [], ◌∷◌, drop, length, slice_get, refl, sym, ap, subst, ◌∙◌, arith}
+use Rattle.std.proofs.lemmas.Option.{slice_get_read}
+use Rattle.std.proofs.Math.ListN.{drop_of_length-le}
+use Rattle.decl_table.specs.Private.NamePaths.{name_count}
+use Rattle.decl_table.specs.Private.PlainNameNode.{HaveFewParts, PlainNameNode, name_forest, name_forest_nodes, name_nodes, name_nodes_forest, node_names}
+use Rattle.decl_table.specs.Private.UsesView.{AddsNodes}
+use Rattle.decl_table.proofs.AddedUses.{adds_both, few_of, left_behind, leaves_next, leaves_none, of_node, of_nodes, of_nodes-first, of_parts, then_ok}
+use Rattle.decl_table.proofs.FoundNames.{name_node_few}
 use Rattle.decl_table.proofs.uses.Uses.+note_node.Goals as goal
 
-pub loop-child-init : goal.loop-child-init
-loop-child-init t c =
+pub note_node-note_nodes-requires : goal.note_node-note_nodes-requires
+note_node-note_nodes-requires t c =
     let node = c.args.node.now in
-    record {
-      leaves =
-          subst (λ inner. Leaves (of_nodes inner) (of_nodes (forest (node ∷ []))) c.args.self.now c.note_parts.new.self) (sym (forest_nodes node.inner))
-          (leaves_next (of_parts node.label.slot 0 node.label.parts) (of_nodes node.inner) (of_nodes (forest (node ∷ [])))
-          (of_nodes (forest (node ∷ []))) c.args.self.now c.args.self.now c.note_parts.new.self c.in_ok-note_parts.ensures (of_node node)
-          (leaves_all (of_nodes (forest (node ∷ []))) c.args.self.now));
-      within = omega arith;
-    }
+    let same : name_forest c.nodes_inside.result.now ≡ node.inner = ap name_forest c.nodes_inside.ensures ∙ name_forest_nodes node.inner in
+    let fewer = ap name_count same in
+    (omega (arith, fewer), subst HaveFewParts (sym same) c.requires.few.1)
 
-pub note_node-requires : goal.note_node-requires
-note_node-requires t c =
-    let inner = c.args.node.now.inner in
-    let child = c.in-Some.child.now in
-    let there : slice_get (nodes inner) c.loop-child.k ≡ Some child = sym c.in-Some.ensures in
-    let few = c.items_are_nodes.ensures.fewer inner c.loop-child.k child there in (
-      omega (arith, few),
-      (c.items_are_nodes.ensures.subtrees inner c.loop-child.k child there c.requires.subtree.1, omega (arith, few, c.requires.few)),
-    )
+pub note_node-returns : goal.note_node-returns
+note_node-returns t c =
+    let node = c.args.node.now in
+    let same : name_forest c.nodes_inside.result.now ≡ node.inner = ap name_forest c.nodes_inside.ensures ∙ name_forest_nodes node.inner in
+    then_ok c.note_nodes.result
+    (λ adds. adds_both (of_parts node.label.slot 0 node.label.parts) (of_nodes node.inner) (of_nodes (node_names node)) c.args.self.now.uses
+    c.note_parts.new.self.uses c.note_nodes.new.self.uses c.in_ok-note_parts.ensures
+    (subst (λ nodes. AddsNodes nodes c.note_parts.new.self.uses c.note_nodes.new.self.uses) same adds) (of_node node))
+    c.note_nodes.ensures
 
-pub overflow_add-k : goal.overflow_add-k
-overflow_add-k t c =
-    let within = slice_get_within (nodes c.args.node.now.inner) c.loop-child.k c.in-Some.child.now (sym c.in-Some.ensures) in
-    omega (arith, within, c.items_are_nodes.ensures.few c.args.node.now.inner, c.requires.few)
+pub note_nodes-note_node-requires : goal.note_nodes-note_node-requires
+note_nodes-note_node-requires t c =
+    let nodes = c.args.nodes.now in
+    let k = c.loop-node.node-index in
+    let node = c.node-item.result in
+    let there : slice_get nodes k ≡ Some node = slice_get_read nodes (length nodes) k node refl c.loop-node-test.true c.node-item.is in
+    let few = name_node_few (name_forest nodes) k node (ap (λ xs. slice_get xs k) (name_nodes_forest nodes) ∙ there) in
+    (omega (arith, few), few_of nodes k node there c.requires.few)
 
-pub loop-child-smaller : goal.loop-child-smaller
-loop-child-smaller t c =
-    let within = slice_get_within (nodes c.args.node.now.inner) c.loop-child.k c.in-Some.child.now (sym c.in-Some.ensures) in
-    omega (arith, within)
+pub note_nodes-loop-node-preserved : goal.note_nodes-loop-node-preserved
+note_nodes-loop-node-preserved t c =
+    let nodes = c.args.nodes.now in
+    let k = c.loop-node.node-index in
+    let node = c.node-item.result in
+    leaves_next (of_nodes (node_names node)) (of_nodes (name_forest (drop (k + 1) nodes))) (of_nodes (name_forest (drop k nodes)))
+    (of_nodes (name_forest nodes)) c.args.self.now.uses c.loop-node.self.uses c.note_node.new.self.uses c.in_ok-note_node.ensures
+    (of_nodes-first (name_forest (drop k nodes)) node (name_forest (drop (k + 1) nodes))
+    (ap name_forest (left_behind nodes k node c.loop-node-test.true c.node-item.is)))
+    c.loop-node.invariant
 
-pub loop-child-preserved : goal.loop-child-preserved
-loop-child-preserved t c =
-    let inner = c.args.node.now.inner in
-    let child = c.in-Some.child.now in
-    let k = c.loop-child.k in
-    let there : slice_get (nodes inner) k ≡ Some child = sym c.in-Some.ensures in
-    record {
-      leaves =
-          leaves_next (of_nodes (forest (child ∷ []))) (of_nodes (forest (drop (k + 1) (nodes inner)))) (of_nodes (forest (drop k (nodes inner))))
-          (of_nodes (forest (c.args.node.now ∷ []))) c.args.self.now c.loop-child.self c.note_node.new.self c.in_ok-note_node.ensures
-          (of_nodes-first (forest (drop k (nodes inner))) child (forest (drop (k + 1) (nodes inner))) (ap forest (left_from (nodes inner) k child there)))
-          c.loop-child.invariant.leaves;
-      within = omega (arith, slice_get_within (nodes inner) k child there);
-    }
-
-pub returns : goal.returns
-returns t c =
-    let inner = c.args.node.now.inner in
-    leaves_none (of_nodes (forest (drop c.loop-child.k (nodes inner)))) (of_nodes (forest (c.args.node.now ∷ []))) c.args.self.now c.loop-child.self
-    (λ name at. ap (λ rest. of_nodes (forest rest) name at) (none_left (nodes inner) c.loop-child.k (sym c.in_default.ensures)))
-    c.loop-child.invariant.leaves
+pub note_nodes-returns : goal.note_nodes-returns
+note_nodes-returns t c =
+    let nodes = c.args.nodes.now in
+    let k = c.loop-node.node-index in
+    leaves_none (of_nodes (name_forest (drop k nodes))) (of_nodes (name_forest nodes)) c.args.self.now.uses c.loop-node.self.uses
+    (λ name at. ap (λ rest. of_nodes (name_forest rest) name at) (drop_of_length-le nodes (omega (arith, c.loop-node-test.false))))
+    c.loop-node.invariant

@@ -1,8 +1,7 @@
 use Rattle.std.proofs.Common.{◌∙◌, Some, [], ◌∷◌, cond, sym, ap, refl, subst}
 use Rattle.std.specs.Prelude.{bytes_eq, unwrap_or, IsSome}
 use Rattle.std.specs.Map.{lookup}
-use Rattle.decl_table.specs.PlainDecls.{PlainUses}
-use Rattle.decl_table.specs.Private.UsesView.{AddsNames}
+use Rattle.decl_table.specs.Private.UsesView.{AddsUnderNames, RoomyUses}
 use Rattle.decl_table.proofs.AddedUses.{noted}
 use Rattle.decl_table.proofs.uses.Uses.note.Goals as goal
 
@@ -13,7 +12,7 @@ returns-in-Some c =
     let new = (c.get_mut.follows.lender c.push.new.self).entries in
     let through = c.get_mut.follows.holds c.push.new.self in
     let held = c.in-Some.ensures.value in
-    subst (λ (uses : PlainUses). AddsNames (key ∷ []) c.args.at uses new) c.self.view_is
+    subst (λ (all : RoomyUses). AddsUnderNames (key ∷ []) c.args.at all.uses new) c.self.view_is
     (noted key c.args.at c.in-Some.places.now old new
     (ap (λ o. unwrap_or o []) (sym held))
     (λ name. (through.3 (subst IsSome held refl)).0 name
@@ -23,7 +22,7 @@ pub returns : goal.returns
 returns c =
     let old = c.self.inside.places.entries in
     let key = c.args.name.now in
-    subst (λ (uses : PlainUses). AddsNames (key ∷ []) c.args.at uses c.insert.new.self.entries) c.self.view_is
+    subst (λ (all : RoomyUses). AddsUnderNames (key ∷ []) c.args.at all.uses c.insert.new.self.entries) c.self.view_is
     (noted key c.args.at [] old c.insert.new.self.entries
     (ap (λ o. unwrap_or o []) (sym c.in_default.ensures.value))
     (λ name. c.in_ok-insert.ensures.updates.0 name

@@ -9,6 +9,6 @@ loop-name-preserved c =
     let k = c.loop-name.name-index in
     let next = c.name-item.result in
     leaves_next (of_names (next ∷ []) at) (of_names (drop (k + 1) names) at) (of_names (drop k names) at) (of_names names at)
-    c.args.self.now c.loop-name.self c.note.new.self c.in_ok-note.ensures
+    c.args.self.now.uses c.loop-name.self.uses c.note.new.self.uses c.in_ok-note.ensures
     (of_names-next names k next at c.loop-name-test.true c.name-item.is)
     c.loop-name.invariant

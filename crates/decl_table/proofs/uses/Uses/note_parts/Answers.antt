@@ -1,11 +1,8 @@
-use Rattle.std.proofs.Common.{◌≡◌, ◌+◌, ℕ, Some, drop, slice_get, sym, ap, subst, arith}
-use Rattle.std.proofs.lemmas.Option.{slice_get_within}
-use Rattle.plcs_base.specs.declared.place.PhraseAt.{PhraseAt}
+use Rattle.std.proofs.Common.{◌≡◌, ◌+◌, ◌<◌, ◌≤◌, length, drop, slice_get, sym, ap, arith}
+use Rattle.std.specs.Option.{option_flatten}
+use Rattle.std.proofs.Math.ListN.{drop_of_length-le}
 use Rattle.template_tree.specs.Checks.Mention.{phrase_at}
-use Rattle.template_tree.specs.Programs.PlainPhrasePlace.{plain_phrase_place}
-use Rattle.decl_table.specs.Private.UsesView.{AddsPart}
-use Rattle.decl_table.proofs.AddedUses.{leaves_next, leaves_none, of_parts, of_parts-next, of_place}
-use Rattle.plcs_base.specs.ListLeft.{left_from, none_left}
+use Rattle.decl_table.proofs.AddedUses.{leaves_next, leaves_none, of_parts, of_parts-turn, of_place}
 use Rattle.decl_table.proofs.uses.Uses.note_parts.Goals as goal
 
 pub loop-part-preserved : goal.loop-part-preserved
@@ -13,24 +10,21 @@ loop-part-preserved c =
     let parts = c.args.node.now.label.parts in
     let slot = c.args.node.now.label.slot in
     let part = c.loop-part.part in
-    let place = plain_phrase_place c.in-Some.place.now in
-    let there : slice_get parts part ≡ Some place = sym c.in-Some.ensures in
-    let at : PhraseAt = record { slot = c.slot-slot.result; part = part } in
-    let same : at ≡ phrase_at slot part = ap (λ (n : ℕ). let p : PhraseAt = record { slot = record { 0 = n }; part = part } in p) c.slot-slot.ensures in
+    let within : part < length parts = omega (arith, c.parts.ensures, c.loop-part-test.true) in
     record {
       leaves =
-          leaves_next (of_place (phrase_at slot part) place) (of_parts slot (part + 1) (drop (part + 1) parts)) (of_parts slot part (drop part parts))
-          (of_parts slot 0 parts) c.args.self.now c.loop-part.self c.note_mention.new.self
-          (subst (λ p. AddsPart p place c.loop-part.self c.note_mention.new.self) same c.in_ok-note_mention.ensures)
-          (of_parts-next slot part (drop part parts) place (drop (part + 1) parts) (left_from parts part place there))
-          c.loop-part.invariant.leaves;
-      within = omega (arith, slice_get_within parts part place there);
+          leaves_next (of_place (phrase_at slot part) (option_flatten (slice_get parts part))) (of_parts slot (part + 1) (drop (part + 1) parts))
+          (of_parts slot part (drop part parts)) (of_parts slot 0 parts) c.args.self.now.uses c.loop-part.self.uses c.note_part.new.self.uses
+          c.in_ok-note_part.ensures (of_parts-turn slot part parts within) c.loop-part.invariant.leaves;
+      within = omega (arith, within);
     }
 
 pub returns : goal.returns
 returns c =
     let parts = c.args.node.now.label.parts in
     let slot = c.args.node.now.label.slot in
-    leaves_none (of_parts slot c.loop-part.part (drop c.loop-part.part parts)) (of_parts slot 0 parts) c.args.self.now c.loop-part.self
-    (λ name at. ap (λ rest. of_parts slot c.loop-part.part rest name at) (none_left parts c.loop-part.part (sym c.in_default.ensures)))
+    let part = c.loop-part.part in
+    let past : length parts ≤ part = omega (arith, c.parts.ensures, c.loop-part-test.false) in
+    leaves_none (of_parts slot part (drop part parts)) (of_parts slot 0 parts) c.args.self.now.uses c.loop-part.self.uses
+    (λ name at. ap (λ rest. of_parts slot part rest name at) (drop_of_length-le parts past))
     c.loop-part.invariant.leaves

@@ -48,7 +48,7 @@ loop-k-preserved g t c =
     let next : k + 1 ≡ c.loop-k.k = omega (arith, c.loop-k-test.true) in
     record {
       noted =
-          noted_node program procedure items k c.loop-k.k child there next c.args.self.now c.loop-k.self c.note_node.new.self c.loop-k.invariant.noted
+          noted_node program procedure items k c.loop-k.k child there next c.args.self.now.verdicts c.loop-k.self.verdicts c.note_node.new.self.verdicts c.loop-k.invariant.noted
           c.in_ok-note_node.ensures.noted;
       within = omega (arith, c.loop-k.invariant.within);
       counts =
@@ -86,7 +86,7 @@ pub returns-clause-noted : goal.returns-clause-noted
 returns-clause-noted g t c =
     let none : c.loop-k.k ≡ 0 = omega (arith, c.loop-k-test.false) in
     then_ok c.note_parts.result
-    (noted_all c.args.tree.now.items c.args.procedure.now c.args.node.now c.loop-k.k c.args.self.now c.loop-k.self c.note_parts.new.self none
+    (noted_all c.args.tree.now.items c.args.procedure.now c.args.node.now c.loop-k.k c.args.self.now.verdicts c.loop-k.self.verdicts c.note_parts.new.self.verdicts none
     c.loop-k.invariant.noted)
     c.note_parts.ensures.noted
 

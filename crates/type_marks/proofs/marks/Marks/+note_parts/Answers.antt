@@ -1,5 +1,6 @@
--- The parts behind this one are noted first, by the recursion; an empty part adds no verdict and no check, and a filled
--- one adds its own before theirs, for one check. Behind the last part nothing is noted, and nothing is left to note.
+-- The parts behind this one are noted first, by the recursion; an empty part adds no verdict and no check, and a
+-- filled one adds its own before theirs, for one check. Behind the last part nothing is noted, and nothing is left to
+-- note.
 use Rattle.std.proofs.Common.{◌≡◌, ℕ, ◌+◌, Some, None, drop, length, slice_get, refl, sym, ap, subst, ◌∙◌, arith}
 use Rattle.std.proofs.lemmas.Option.{slice_get_within}
 use Rattle.std.specs.Option.{option_flatten}
@@ -10,14 +11,14 @@ use Rattle.template_tree.specs.Checks.Mention.{phrase_at}
 use Rattle.template_tree.specs.Programs.PlainPhrasePlace.{plain_phrase_place}
 use Rattle.template_tree.specs.Checks.Verdict.{verdict}
 use Rattle.type_marks.specs.Private.DeclaredItems.{IsListIn}
-use Rattle.type_marks.specs.Private.MarksView.{with_all}
+use Rattle.type_marks.specs.MarkEdit.{with_all}
 use Rattle.type_marks.proofs.NotedVerdicts.{at_most, noted_none, noted_part, part_empty, part_filled, parts_shorter, then_ok}
 use Rattle.type_marks.proofs.marks.Marks.+note_parts.Goals as goal
 
 pub returns-in_default-clause-noted : goal.returns-in_default-clause-noted
 returns-in_default-clause-noted g t c =
     let slot = c.args.node.now.label.slot in
-    noted_none (surroundings c.args.tree.now.items c.args.procedure.now slot) slot c.args.part c.args.node.now.label.parts c.args.self.now
+    noted_none (surroundings c.args.tree.now.items c.args.procedure.now slot) slot c.args.part c.args.node.now.label.parts c.args.self.now.verdicts
     (sym c.in_default.ensures)
 
 pub returns-in_default-clause-counts : goal.returns-in_default-clause-counts
@@ -54,7 +55,7 @@ returns-in_default-place-clause-noted g t c =
     let parts = c.args.node.now.label.parts in
     let there : slice_get parts c.args.part ≡ Some None = sym c.in-Some.ensures ∙ ap (λ p. Some (plain_phrase_place p)) c.in_default-place.is in
     c.in_ok-note_parts.ensures.noted
-    ∙ ap (λ (verdicts : VerdictList). with_all verdicts c.args.self.now)
+    ∙ ap (λ (verdicts : VerdictList). with_all verdicts c.args.self.now.verdicts)
     (sym (part_empty (surroundings c.args.tree.now.items c.args.procedure.now slot) slot c.args.part parts there))
 
 pub returns-in_default-place-clause-counts : goal.returns-in_default-place-clause-counts
@@ -89,7 +90,7 @@ returns-clause-noted g t c =
     let found_is : c.checked-verdict.result ≡ verdict (surroundings program procedure slot) phrase =
     c.checked-verdict.ensures.verdict ∙ ap (λ (n : ℕ). verdict (surroundings program procedure n) phrase) c.slot-2.ensures in
     then_ok c.note.result
-    (noted_part (surroundings program procedure slot) slot part parts phrase c.args.self.now c.note_parts.new.self c.note.new.self at c.checked-verdict.result there at_is found_is
+    (noted_part (surroundings program procedure slot) slot part parts phrase c.args.self.now.verdicts c.note_parts.new.self.verdicts c.note.new.self.verdicts at c.checked-verdict.result there at_is found_is
     c.in_ok-note_parts.ensures.noted)
     c.note.ensures
 

@@ -27,7 +27,7 @@ loop-k-preserved g c =
     let there : slice_get items k ≡ Some procedure = sym c.in-Some.ensures.item in
     let next : k + 1 ≡ c.loop-k.k = omega (arith, c.loop-k-test.true) in
     record {
-      noted = noted_procedure program items k c.loop-k.k procedure there next c.loop-k.marks c.note_node.new.self c.loop-k.invariant.noted c.in_ok-note_node.ensures.noted;
+      noted = noted_procedure program items k c.loop-k.k procedure there next c.loop-k.marks.verdicts c.note_node.new.self.verdicts c.loop-k.invariant.noted c.in_ok-note_node.ensures.noted;
       within = omega (arith, c.loop-k.invariant.within);
       counts =
           c.counts_add_up.ensures.checks.joined (length (procedure_verdicts program (forest (drop c.loop-k.k items))))

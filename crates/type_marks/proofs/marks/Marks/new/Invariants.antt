@@ -10,7 +10,7 @@ decreases-loop-k g l = l.k
 
 abbrev pub invariant-loop-k : goal.invariant-loop-k
 invariant-loop-k g l = record {
-  noted : l.marks ≡ (let m : VerdictMap = from_entries (procedure_verdicts l.tree.items (forest (drop l.k (nodes l.tree.items)))) in m);
+  noted : l.marks.verdicts ≡ (let m : VerdictMap = from_entries (procedure_verdicts l.tree.items (forest (drop l.k (nodes l.tree.items)))) in m);
   within : l.k ≤ length (nodes l.tree.items);
   counts :
       ChecksAtMost (length (procedure_verdicts l.tree.items (forest (drop l.k (nodes l.tree.items))))) (g.W.Work.counts l.fn.work) (g.W.Work.counts l.work);

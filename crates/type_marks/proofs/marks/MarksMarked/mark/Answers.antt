@@ -5,8 +5,8 @@ use Rattle.type_marks.proofs.marks.MarksMarked.mark.Goals as goal
 
 pub returns-in-Some : goal.returns-in-Some
 returns-in-Some g c =
-    c.kind.ensures ∙ ap option_flatten c.in-Some.ensures ∙ sym (mark_at c.args.self.now c.args.at)
+    c.kind.ensures ∙ ap option_flatten c.in-Some.ensures ∙ sym (mark_at c.args.self.now.verdicts c.args.at)
 
 pub returns-in-None : goal.returns-in-None
 returns-in-None g c =
-    ap option_flatten c.in-None.ensures ∙ sym (mark_at c.args.self.now c.args.at)
+    ap option_flatten c.in-None.ensures ∙ sym (mark_at c.args.self.now.verdicts c.args.at)

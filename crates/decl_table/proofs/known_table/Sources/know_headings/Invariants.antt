@@ -1,0 +1,12 @@
+use Rattle.std.proofs.Common.{◌≡◌, List, ℕ, take, true}
+use Rattle.decl_table.specs.Knowledge.{KnowsHeading}
+use Rattle.decl_table.specs.Private.KnownTable.{KeepsOwn, Learns}
+use Rattle.decl_table.specs.Private.NameTests.{has_name}
+use Rattle.decl_table.proofs.known_table.Sources.know_headings.Given as goal
+
+abbrev pub invariant-loop-name : goal.invariant-loop-name
+invariant-loop-name l = record {
+  learnt : Learns l.self.tree.now.items l.fn.table l.table;
+  kept : KeepsOwn l.self.items l.fn.table l.table;
+  knows : (name : List ℕ) → has_name (take l.name-index l.names) name ≡ true → KnowsHeading l.table l.self.tree.now.items name;
+}
