@@ -51,6 +51,8 @@ pub mod LandedEnds
 pub mod BegunBodies
 -- the law `steps_have_addresses`
 pub mod OnlySteps
+-- the law `own_codes_stay_in_slots`
+pub mod SlotSteps
 -- the law `entries_are_headings`
 pub mod HeadingEntries
 -- `code_ignores_room_and_elision`: what room and elision leave of a program, and the code of that

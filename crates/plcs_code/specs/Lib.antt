@@ -5,6 +5,7 @@ pub mod InstrText
 pub mod ExprCode
 pub mod Pieces
 pub mod Gen
+pub mod OwnCode
 pub mod ProgramCode
 -- ---- the laws of code
 pub mod CodeLaws

@@ -129,7 +129,7 @@ impl Addresses {
 
 /// Whether a run that comes to a node of the kind goes to its first item at once, so that the place where it
 /// starts has the address of the item's place.
-fn passes_in(kind: NodeKind) -> bool
+pub fn passes_in(kind: NodeKind) -> bool
     ensures { result ≡ passes_in kind }
 {
     match kind {
@@ -168,7 +168,7 @@ fn passes_in_template(template: Template) -> bool
 }
 
 /// Whether a node of the kind is a call, of which the place where it comes back has an address too.
-fn is_call(kind: NodeKind) -> bool
+pub fn is_call(kind: NodeKind) -> bool
     ensures { result ≡ is_call kind }
 {
     match kind {

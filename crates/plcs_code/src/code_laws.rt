@@ -1,6 +1,7 @@
 //! The laws of code, each a function that does nothing and whose contract states it.
 ghost use Rattle.plcs_code.specs.CodeLaws.{AddressesHoldSteps, CallsComeBack, EntriesAreHeadings, EntriesBeginProcedures, JumpsStayInNodes, JumpsStayInside, LengthsAreTold, OwnCodesAddUp, OwnCodesAreTold, OwnLengthsStay, PassedStartsStand, PlacesHaveAddresses, SpansHoldCode};
 ghost use Rattle.plcs_code.specs.Landing.{BodiesBegin, SecondBodiesBegin, StatementsGoOn, StepsHaveAddresses};
+ghost use Rattle.plcs_code.specs.OwnCode.{JumpsAreFew, OwnStepsEndInSlot};
 ghost use Rattle.plcs_code.specs.ProgramCode.{CodeAsksItems, CodeIgnoresElision, CodeIgnoresRoom, CodeIsOfProgram, ProgramCodeIgnoresAllElision, ProgramCodeIgnoresElision, ProgramCodeIgnoresRoom, ProgramItemsTell};
 
 use template_tree::checks_ignore_room_and_elision;
@@ -65,6 +66,12 @@ pub fn bodies_begin()
 /// A step that ends at a place has the address of that place.
 pub fn steps_have_addresses()
     ensures { StepsHaveAddresses }
+{}
+
+/// The steps of a node's own code end at places of the node's slot, and two jumps at most are among it.
+pub fn own_codes_stay_in_slots()
+    ensures steps { OwnStepsEndInSlot }
+    ensures jumps { JumpsAreFew }
 {}
 
 /// Code doesn't depend on the room of lists, nor on which comments are elided, and of the map of items it asks only

@@ -4,7 +4,7 @@ ghost use Rattle.std.specs.Option.{option_to_list};
 ghost use Rattle.template_tree.specs.Programs.Part.{part_at};
 ghost use Rattle.plcs_code.specs.BlockLimit.{most_instrs};
 ghost use Rattle.plcs_code.specs.ExprCode.{counter_name};
-ghost use Rattle.plcs_code.specs.Pieces.{back_jump, enter_jump, iteration_jump, no_jumps, own_jumps, template_jumps, test_jump};
+ghost use Rattle.plcs_code.specs.Pieces.{back_jump, enter_jump, iteration_jump, kind_jumps, no_jumps, own_jumps, template_jumps, test_jump};
 ghost use Rattle.plcs_code.specs.PlainInstr.{plain_instr};
 ghost use Rattle.plcs_code.specs.Private.LaysAll.{LaysAll};
 ghost use Rattle.plcs_code.specs.Private.PlainJumps.{plain_jumps};
@@ -14,7 +14,7 @@ use crate::instr_out::InstrOut;
 use crate::names::name_of;
 use crate::statement_parts::counter_name;
 use crate::suspension::{first_suspension, suspension};
-use plcs_base::{Marked, Work};
+use plcs_base::{Marked, Name, Slot, Work};
 use plcs_grammar::{NodeKind, Template};
 use template_tree::Node;
 
@@ -44,14 +44,42 @@ pub(crate) fn own_jumps<M: Marked>(
 {
     let all = suspension(node, marks).is_some();
     let one = first_suspension(node, marks).is_some();
-    match node.kind() {
+    kind_jumps(
+        node.slot(),
+        node.kind(),
+        counter_name(node),
+        all,
+        one,
+        before,
+        first,
+        others,
+    )
+}
+
+/// The jumps of a node of the kind in a slot, which counts with the variable, if it is there; where the piece that
+/// needs all its parts is stopped or not, and the one that needs the first.
+pub(crate) fn kind_jumps(
+    slot: Slot,
+    kind: NodeKind,
+    counter: Option<&Name>,
+    all: bool,
+    one: bool,
+    before: u32,
+    first: u32,
+    others: u32,
+) -> Jumps
+    requires short { before + first + others + 2 ≤ most_instrs }
+    ensures { plain_jumps result
+        ≡ kind_jumps slot.0 (option_map (λ name. name.now) counter.entry) all one before first others kind }
+{
+    match kind {
         NodeKind::DeclarationHole => no_jumps(),
         NodeKind::StatementHole => no_jumps(),
         NodeKind::ProcedureHole => no_jumps(),
         NodeKind::Main => no_jumps(),
         NodeKind::Assign => no_jumps(),
         NodeKind::Filled(template) => {
-            template_jumps(node, template, all, one, before, first, others)
+            template_jumps(slot, template, counter, all, one, before, first, others)
         }
     }
 }
@@ -70,8 +98,9 @@ fn no_jumps() -> Jumps
 /// The jumps of a node of the template, where the piece that needs all its parts is stopped or not, and the
 /// one that needs the first.
 fn template_jumps(
-    node: &Node,
+    slot: Slot,
     template: Template,
+    counter: Option<&Name>,
     all: bool,
     one: bool,
     before: u32,
@@ -79,8 +108,8 @@ fn template_jumps(
     others: u32,
 ) -> Jumps
     requires short { before + first + others + 2 ≤ most_instrs }
-    ensures { plain_jumps result ≡ template_jumps node.now.label.slot (counter_name (part_at node.now.label.parts 0))
-        all one before first others template }
+    ensures { plain_jumps result
+        ≡ template_jumps slot.0 (option_map (λ name. name.now) counter.entry) all one before first others template }
 {
     match template {
         Template::Fixed => no_jumps(),
@@ -98,9 +127,9 @@ fn template_jumps(
         },
         Template::While => while_jumps(all, before, first + others),
         Template::For => Jumps {
-            ahead: enter_jump(node, all, first + others + 2),
+            ahead: enter_jump(slot, counter, all, first + others + 2),
             between: None,
-            back: iteration_jump(node, one, first + others + 2),
+            back: iteration_jump(slot, counter, one, first + others + 2),
         },
         Template::Group => no_jumps(),
         Template::Get => no_jumps(),
@@ -145,34 +174,34 @@ fn test_jump(stopped: bool, ahead: u32) -> Option<Instr>
 }
 
 /// The instruction that enters a loop that counts, if its variable is there, and it isn't stopped.
-fn enter_jump(node: &Node, stopped: bool, ahead: u32) -> Option<Instr>
+fn enter_jump(slot: Slot, counter: Option<&Name>, stopped: bool, ahead: u32) -> Option<Instr>
     requires few { ahead ≤ most_instrs }
-    ensures { option_map plain_instr result ≡ enter_jump node.now.label.slot (counter_name
-        (part_at node.now.label.parts 0)) stopped ahead }
+    ensures { option_map plain_instr result
+        ≡ enter_jump slot.0 (option_map (λ name. name.now) counter.entry) stopped ahead }
 {
     if stopped {
         return None;
     }
-    let Some(name) = counter_name(node) else {
+    let Some(name) = counter else {
         return None;
     };
-    Some(Instr::ForEnter(node.slot(), name_of(name), ahead as i32))
+    Some(Instr::ForEnter(slot, name_of(name), ahead as i32))
 }
 
 /// The instruction for the next iteration of a loop that counts, if its variable is there, and it isn't
 /// stopped.
-fn iteration_jump(node: &Node, stopped: bool, back: u32) -> Option<Instr>
+fn iteration_jump(slot: Slot, counter: Option<&Name>, stopped: bool, back: u32) -> Option<Instr>
     requires few { back ≤ most_instrs }
-    ensures { option_map plain_instr result ≡ iteration_jump node.now.label.slot (counter_name
-        (part_at node.now.label.parts 0)) stopped back }
+    ensures { option_map plain_instr result
+        ≡ iteration_jump slot.0 (option_map (λ name. name.now) counter.entry) stopped back }
 {
     if stopped {
         return None;
     }
-    let Some(name) = counter_name(node) else {
+    let Some(name) = counter else {
         return None;
     };
-    Some(Instr::ForNext(node.slot(), name_of(name), back_by(back)))
+    Some(Instr::ForNext(slot, name_of(name), back_by(back)))
 }
 
 /// The number of a jump back by so many instructions.

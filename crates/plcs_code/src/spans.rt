@@ -86,7 +86,7 @@ impl Spans {
 
 /// Whether the slot of a node of the kind has a span, that of the node's code: a declaration has no code, nor
 /// has a hole for a procedure.
-fn has_code(kind: NodeKind) -> bool
+pub fn has_code(kind: NodeKind) -> bool
     ensures { result ≡ has_code kind }
 {
     match kind {

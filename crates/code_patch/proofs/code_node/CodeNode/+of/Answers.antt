@@ -1,0 +1,245 @@
+-- The own code of a node is made, then what stands inside it, and then its jumps, which depend on how long that is;
+-- what is counted is what each of these is long. Inside, what is kept so far and what is still to be kept is all of
+-- it.
+use Rattle.std.specs.Prelude.{◌≡◌, ◌+◌, ◌∷◌, ◌++◌, [], Some, drop, length, slice_get, sum}
+use Rattle.std.proofs.Common.{arith, ap, sym, ◌∙◌, refl}
+use Rattle.std.proofs.lemmas.List.{length-append}
+use Rattle.std.proofs.lemmas.Option.{slice_get_within}
+use Rattle.template_tree.specs.Programs.PlainTree.{Forest, forest, forest_nodes, nodes}
+use Rattle.plcs_code.specs.Gen.{node_lengths}
+use Rattle.plcs_code.specs.OwnCode.{own_code_by}
+use Rattle.code_patch.specs.CodeEdit.{join_code, roomless_code}
+use Rattle.code_patch.specs.CodeForest.{CodeForest, kept_code, kept_lengths, code_nodes}
+use Rattle.code_patch.specs.Private.OuterNodes.{nodes_inside}
+use Rattle.code_patch.specs.Private.PlainCodeNode.{code_forest, jumps_length, node_length}
+use Rattle.code_patch.proofs.CodeRoots.{root_length}
+use Rattle.code_patch.proofs.CountedCode.{emits_both, emits_break, emits_more, emits_most, emits_nothing}
+use Rattle.code_patch.proofs.MadeCode.{lengths_next, lengths_none, made_all, made_next, node_kept, nodes_join, outer_sound, roomless_kept, whole_length}
+use Rattle.code_patch.proofs.code_node.CodeNode.+of.Goals as goal
+
+-- ---- a node
+
+pub of-returns-in_err-own-clause-counts : goal.of-returns-in_err-own-clause-counts
+of-returns-in_err-own-clause-counts g t c =
+    let marks = g.M.Marked.marks c.args.marks.now in
+    let items = g.D.Scope.items c.args.scope.now in
+    let node = c.args.node.now in
+    let own = own_code_by marks items node.label in
+    let whole = whole_length c.lengths_are_told.ensures.own marks items node own (kept_code marks items node.inner) refl (roomless_kept marks items node.inner) in
+    emits_more (length own.pieces.before + length own.pieces.behind) (node_length marks items node) (g.W.Work.counts c.args.work.now)
+    (g.W.Work.counts c.of.new.work) (omega (arith, whole)) c.of.ensures.counts
+
+pub of-inside-requires : goal.of-inside-requires
+of-inside-requires g t c κs within =
+    (omega arith, (within.0, (within.1.0, (within.1.1, (c.requires.subtree, c.requires.few)))))
+
+pub of-returns-in_err-inside-clause-counts : goal.of-returns-in_err-inside-clause-counts
+of-returns-in_err-inside-clause-counts g t c =
+    let marks = g.M.Marked.marks c.args.marks.now in
+    let items = g.D.Scope.items c.args.scope.now in
+    let node = c.args.node.now in
+    let own = c.in_ok-own.own in
+    let whole = whole_length c.lengths_are_told.ensures.own marks items node own (kept_code marks items node.inner) c.in_ok-own.ensures.code (roomless_kept marks items node.inner) in
+    emits_break (length own.pieces.before + length own.pieces.behind) (sum (node_lengths marks items node.inner)) (node_length marks items node)
+    (g.W.Work.counts c.args.work.now) (g.W.Work.counts c.of.new.work) (g.W.Work.counts c.inside.new.work)
+    (omega (arith, whole)) c.in_ok-own.ensures.counted c.inside.ensures.counts
+
+pub of-returns-in_err-kept-clause-counts : goal.of-returns-in_err-kept-clause-counts
+of-returns-in_err-kept-clause-counts g t c =
+    let marks = g.M.Marked.marks c.args.marks.now in
+    let items = g.D.Scope.items c.args.scope.now in
+    let node = c.args.node.now in
+    let own = c.in_ok-own.own in
+    let inner = c.in_ok-inside.inside.inner in
+    let first = length own.pieces.before + length own.pieces.behind in
+    let inside = sum (node_lengths marks items node.inner) in
+    let whole = whole_length c.lengths_are_told.ensures.own marks items node own inner c.in_ok-own.ensures.code c.in_ok-inside.ensures.inner in
+    emits_break (first + inside) (jumps_length own (kept_lengths inner)) (node_length marks items node)
+    (g.W.Work.counts c.args.work.now) (g.W.Work.counts c.inside.new.work) (g.W.Work.counts c.with_own.new.work)
+    (omega (arith, whole))
+    (emits_both first inside (first + inside) (g.W.Work.counts c.args.work.now) (g.W.Work.counts c.of.new.work) (g.W.Work.counts c.inside.new.work)
+    refl c.in_ok-own.ensures.counted c.in_ok-inside.ensures.counted)
+    c.with_own.ensures.counts
+
+pub of-returns-clause-kept : goal.of-returns-clause-kept
+of-returns-clause-kept g t c =
+    let marks = g.M.Marked.marks c.args.marks.now in
+    let items = g.D.Scope.items c.args.scope.now in
+    node_kept marks items c.args.node.now c.in_ok-kept.kept c.in_ok-own.own c.in_ok-inside.inside.inner
+    c.in_ok-kept.ensures.own c.in_ok-kept.ensures.inner c.in_ok-own.ensures.code c.in_ok-inside.ensures.inner
+
+pub of-returns-clause-counted : goal.of-returns-clause-counted
+of-returns-clause-counted g t c =
+    let marks = g.M.Marked.marks c.args.marks.now in
+    let items = g.D.Scope.items c.args.scope.now in
+    let node = c.args.node.now in
+    let own = c.in_ok-own.own in
+    let inner = c.in_ok-inside.inside.inner in
+    let first = length own.pieces.before + length own.pieces.behind in
+    let inside = sum (node_lengths marks items node.inner) in
+    let whole = whole_length c.lengths_are_told.ensures.own marks items node own inner c.in_ok-own.ensures.code c.in_ok-inside.ensures.inner in
+    emits_both (first + inside) (jumps_length own (kept_lengths inner)) (node_length marks items node)
+    (g.W.Work.counts c.args.work.now) (g.W.Work.counts c.inside.new.work) (g.W.Work.counts c.with_own.new.work)
+    (omega (arith, whole))
+    (emits_both first inside (first + inside) (g.W.Work.counts c.args.work.now) (g.W.Work.counts c.of.new.work) (g.W.Work.counts c.inside.new.work)
+    refl c.in_ok-own.ensures.counted c.in_ok-inside.ensures.counted)
+    c.in_ok-kept.ensures.counted
+
+pub of-returns-clause-counts : goal.of-returns-clause-counts
+of-returns-clause-counts g t c =
+    let marks = g.M.Marked.marks c.args.marks.now in
+    let items = g.D.Scope.items c.args.scope.now in
+    let node = c.args.node.now in
+    let own = c.in_ok-own.own in
+    let inner = c.in_ok-inside.inside.inner in
+    let first = length own.pieces.before + length own.pieces.behind in
+    let inside = sum (node_lengths marks items node.inner) in
+    let whole = whole_length c.lengths_are_told.ensures.own marks items node own inner c.in_ok-own.ensures.code c.in_ok-inside.ensures.inner in
+    emits_break (first + inside) (jumps_length own (kept_lengths inner)) (node_length marks items node)
+    (g.W.Work.counts c.args.work.now) (g.W.Work.counts c.inside.new.work) (g.W.Work.counts c.with_own.new.work)
+    (omega (arith, whole))
+    (emits_both first inside (first + inside) (g.W.Work.counts c.args.work.now) (g.W.Work.counts c.of.new.work) (g.W.Work.counts c.inside.new.work)
+    refl c.in_ok-own.ensures.counted c.in_ok-inside.ensures.counted)
+    c.with_own.ensures.counts
+
+-- ---- the nodes inside
+
+pub inside-loop-node-init : goal.inside-loop-node-init
+inside-loop-node-init g t c =
+    let marks = g.M.Marked.marks c.args.marks.now in
+    let items = g.D.Scope.items c.args.scope.now in
+    let all = nodes_inside c.args.outer.now in
+    let same : forest (nodes all) ≡ all = forest_nodes all in
+    record {
+      within = omega arith;
+      own = c.none-kept.ensures.own;
+      many = ap (λ (f : CodeForest). length (code_nodes f)) c.none-kept.ensures.inner;
+      short =
+          omega
+          (arith, root_length c.none-kept.result c.none-kept.ensures.own, ap (λ (f : CodeForest). sum (kept_lengths f)) c.none-kept.ensures.inner);
+      made =
+          ap (λ (f : CodeForest). join_code (roomless_code f) (kept_code marks items (forest (nodes all)))) c.none-kept.ensures.inner
+          ∙ ap (λ (f : Forest). kept_code marks items f) same;
+      counts = (
+        0,
+        omega (arith, ap (λ (f : Forest). sum (node_lengths marks items f)) same),
+        emits_nothing (g.W.Work.counts c.args.work.now),
+      );
+    }
+
+pub inside-of-requires : goal.inside-of-requires
+inside-of-requires g t c κs within =
+    let all = nodes_inside c.args.outer.now in
+    let node = c.in-Some.node.now in
+    let k = c.loop-node.k in
+    let there : slice_get (nodes all) k ≡ Some node = sym c.in-Some.ensures in
+    let sound = outer_sound c.args.outer.now c.requires.outer in
+    let fewer = c.items_are_nodes.ensures.fewer all k node there in
+    (omega (arith, fewer), (within.0, (within.1.0, (within.1.1, (c.items_are_nodes.ensures.subtrees all k node there sound.0, omega (arith, fewer, sound.1))))))
+
+pub inside-loop-node-smaller : goal.inside-loop-node-smaller
+inside-loop-node-smaller g t c =
+    let all = nodes_inside c.args.outer.now in
+    let there : slice_get (nodes all) c.loop-node.k ≡ Some c.in-Some.node.now = sym c.in-Some.ensures in
+    omega (arith, slice_get_within (nodes all) c.loop-node.k c.in-Some.node.now there)
+
+pub inside-overflow_add-k : goal.inside-overflow_add-k
+inside-overflow_add-k g t c =
+    let all = nodes_inside c.args.outer.now in
+    let there : slice_get (nodes all) c.loop-node.k ≡ Some c.in-Some.node.now = sym c.in-Some.ensures in
+    let sound = outer_sound c.args.outer.now c.requires.outer in
+    omega (arith, slice_get_within (nodes all) c.loop-node.k c.in-Some.node.now there, c.items_are_nodes.ensures.few all, sound.1)
+
+pub inside-push-requires-clause-few : goal.inside-push-requires-clause-few
+inside-push-requires-clause-few g t c =
+    let all = nodes_inside c.args.outer.now in
+    let there : slice_get (nodes all) c.loop-node.k ≡ Some c.in-Some.node.now = sym c.in-Some.ensures in
+    let sound = outer_sound c.args.outer.now c.requires.outer in
+    omega (arith, slice_get_within (nodes all) c.loop-node.k c.in-Some.node.now there, c.items_are_nodes.ensures.few all, sound.1, c.loop-node.invariant.many)
+
+pub inside-returns-in_err-child-clause-counts : goal.inside-returns-in_err-child-clause-counts
+inside-returns-in_err-child-clause-counts g t c =
+    let marks = g.M.Marked.marks c.args.marks.now in
+    let items = g.D.Scope.items c.args.scope.now in
+    let all = nodes_inside c.args.outer.now in
+    let node = c.in-Some.node.now in
+    let k = c.loop-node.k in
+    let there : slice_get (nodes all) k ≡ Some node = sym c.in-Some.ensures in
+    let next = lengths_next marks items all k node there in
+    emits_break c.loop-node.invariant.counts.0 (node_length marks items node) (sum (node_lengths marks items all))
+    (g.W.Work.counts c.args.work.now) (g.W.Work.counts c.loop-node.work) (g.W.Work.counts c.of.new.work)
+    (omega (arith, next, c.loop-node.invariant.counts.1)) c.loop-node.invariant.counts.2 c.of.ensures.counts
+
+pub inside-returns-in_err-push-clause-counts : goal.inside-returns-in_err-push-clause-counts
+inside-returns-in_err-push-clause-counts g t c =
+    let marks = g.M.Marked.marks c.args.marks.now in
+    let items = g.D.Scope.items c.args.scope.now in
+    let all = nodes_inside c.args.outer.now in
+    let node = c.in-Some.node.now in
+    let k = c.loop-node.k in
+    let there : slice_get (nodes all) k ≡ Some node = sym c.in-Some.ensures in
+    let next = lengths_next marks items all k node there in
+    let done = c.loop-node.invariant.counts.0 in
+    let more = node_length marks items node in
+    emits_most (done + more) (sum (node_lengths marks items all)) (g.W.Work.counts c.args.work.now) (g.W.Work.counts c.of.new.work)
+    (omega (arith, next, c.loop-node.invariant.counts.1))
+    (emits_both done more (done + more) (g.W.Work.counts c.args.work.now) (g.W.Work.counts c.loop-node.work) (g.W.Work.counts c.of.new.work)
+    refl c.loop-node.invariant.counts.2 c.in_ok-child.ensures.counted)
+
+pub inside-loop-node-preserved : goal.inside-loop-node-preserved
+inside-loop-node-preserved g t c =
+    let marks = g.M.Marked.marks c.args.marks.now in
+    let items = g.D.Scope.items c.args.scope.now in
+    let all = nodes_inside c.args.outer.now in
+    let node = c.in-Some.node.now in
+    let k = c.loop-node.k in
+    let there : slice_get (nodes all) k ≡ Some node = sym c.in-Some.ensures in
+    let next = lengths_next marks items all k node there in
+    let done = c.loop-node.invariant.counts.0 in
+    let more = node_length marks items node in
+    let kept = c.loop-node.kept.inner in
+    let child = c.in_ok-child.child in
+    let put = c.in_ok-push.ensures.inner in
+    let long = length-append (code_nodes kept) (child ∷ []) in
+    let many : length (code_nodes c.push.new.self.inner) ≡ length (code_nodes kept ++ child ∷ []) =
+    ap (λ (f : CodeForest). length (code_nodes f)) put ∙ ap length (nodes_join kept (code_forest (child ∷ []))) in
+    record {
+      within = omega (arith, slice_get_within (nodes all) k node there);
+      own = c.in_ok-push.ensures.own;
+      many = omega (arith, many, long, c.loop-node.invariant.many);
+      short = c.in_ok-push.ensures.short;
+      made =
+          ap (λ (f : CodeForest). join_code (roomless_code f) (kept_code marks items (forest (drop (k + 1) (nodes all))))) put
+          ∙ made_next marks items all k node there (kept_code marks items all) kept child c.in_ok-child.ensures.kept c.loop-node.invariant.made;
+      counts = (
+        done + more,
+        omega (arith, next, c.loop-node.invariant.counts.1),
+        emits_both done more (done + more) (g.W.Work.counts c.args.work.now) (g.W.Work.counts c.loop-node.work) (g.W.Work.counts c.of.new.work)
+            refl c.loop-node.invariant.counts.2 c.in_ok-child.ensures.counted,
+      );
+    }
+
+pub inside-returns-clause-inner : goal.inside-returns-clause-inner
+inside-returns-clause-inner g t c =
+    let marks = g.M.Marked.marks c.args.marks.now in
+    let items = g.D.Scope.items c.args.scope.now in
+    let all = nodes_inside c.args.outer.now in
+    made_all marks items all c.loop-node.k (kept_code marks items all) c.loop-node.kept.inner (sym c.in_default.ensures) c.loop-node.invariant.made
+
+pub inside-returns-clause-counted : goal.inside-returns-clause-counted
+inside-returns-clause-counted g t c =
+    let marks = g.M.Marked.marks c.args.marks.now in
+    let items = g.D.Scope.items c.args.scope.now in
+    let all = nodes_inside c.args.outer.now in
+    let none = lengths_none marks items all c.loop-node.k (sym c.in_default.ensures) in
+    let done = c.loop-node.invariant.counts.0 in
+    emits_both done 0 (sum (node_lengths marks items all)) (g.W.Work.counts c.args.work.now) (g.W.Work.counts c.loop-node.work) (g.W.Work.counts c.loop-node.work)
+    (omega (arith, none, c.loop-node.invariant.counts.1)) c.loop-node.invariant.counts.2 (emits_nothing (g.W.Work.counts c.loop-node.work))
+
+pub inside-returns-clause-counts : goal.inside-returns-clause-counts
+inside-returns-clause-counts g t c =
+    let marks = g.M.Marked.marks c.args.marks.now in
+    let items = g.D.Scope.items c.args.scope.now in
+    let all = nodes_inside c.args.outer.now in
+    emits_most c.loop-node.invariant.counts.0 (sum (node_lengths marks items all)) (g.W.Work.counts c.args.work.now) (g.W.Work.counts c.loop-node.work)
+    (omega (arith, c.loop-node.invariant.counts.1)) c.loop-node.invariant.counts.2

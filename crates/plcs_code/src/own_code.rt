@@ -1,0 +1,312 @@
+//! What the own code of a node is made of, kept apart from the codes inside the node, beside which its jumps are
+//! emitted again where these have other lengths.
+ghost use Rattle.std.specs.Prelude.{◌≡◌, ◌+◌, ◌≤◌, ◌<◌, ◌↔◌, [], IfOk, OnOk, true, is_some, length, option_map, take};
+ghost use Rattle.std.specs.Option.{option_to_list};
+ghost use Rattle.template_tree.specs.Checks.Environment.{heading_of};
+ghost use Rattle.template_tree.specs.Programs.Part.{part_at};
+ghost use Rattle.plcs_code.specs.BlockLimit.{most_instrs};
+ghost use Rattle.plcs_code.specs.Counts.{Emits, EmitsAtMost};
+ghost use Rattle.plcs_code.specs.ExprCode.{counter_name};
+ghost use Rattle.plcs_code.specs.OwnCode.{jumps_around, name_to_call, no_own_code, own_code_by};
+ghost use Rattle.plcs_code.specs.Pieces.{own_pieces, suspension};
+ghost use Rattle.plcs_code.specs.PlainInstr.{plain_instr};
+
+use crate::block::Block;
+use crate::instr::Instr;
+use crate::instr_out::Draft;
+use crate::jumps::{kind_jumps, lay_jump};
+use crate::lay_before::lay_before;
+use crate::lay_behind::lay_behind;
+use crate::names::name_of;
+use crate::procedure_items::procedure_items;
+use crate::statement_parts::counter_name;
+use crate::suspension::{first_suspension, suspension};
+use plcs_base::{Declared, Marked, Name, OutOfMemory, Scope, Slot, Work};
+use plcs_grammar::NodeKind;
+use std::alloc::Global;
+use std::marker::Model;
+use template_tree::{Node, heading_name, may_be_called};
+
+/// What the own code of a node is made of: its pieces, and what its jumps depend on beside the lengths of the codes
+/// inside the node. Contracts see it as plain data.
+#[derive(Drop)]
+pub struct OwnCode<W> {
+    slot: Slot,
+    kind: NodeKind,
+    name: Option<Name>,
+    counter: Option<Name>,
+    all_stopped: bool,
+    one_stopped: bool,
+    before: Block<W>,
+    behind: Block<W>,
+}
+
+/// The jumps of own code, each a block of one instruction or none.
+#[derive(Drop)]
+pub struct JumpBlocks<W> {
+    /// Before the code of what stands inside the node.
+    pub ahead: Block<W>,
+    /// Behind the code of the first node inside.
+    pub between: Block<W>,
+    /// Behind all.
+    pub back: Block<W>,
+}
+
+impl<W> Model for OwnCode<W> {
+    ghost use Rattle.plcs_code.specs.OwnCode.{PlainOwnCode};
+    ghost use Rattle.plcs_code.specs.Private.OwnCodeCode.{own_code_code};
+
+    ghost Value = { PlainOwnCode };
+
+    ghost coded = { own_code_code };
+
+    ghost view = { λ a.
+        record {
+          slot = a.slot.0;
+          kind = a.kind;
+          name = a.name;
+          counter = a.counter;
+          all_stopped = a.all_stopped;
+          one_stopped = a.one_stopped;
+          pieces = record { before = a.before; behind = a.behind };
+        } };
+}
+
+impl<W> OwnCode<W> {
+    /// The slot of the node.
+    pub fn slot(&self) -> Slot
+        ensures { result.0 ≡ self.now.slot }
+    {
+        self.slot
+    }
+
+    /// The kind of the node.
+    pub fn kind(&self) -> NodeKind
+        ensures { result ≡ self.now.kind }
+    {
+        self.kind
+    }
+
+    /// Whether the own code stops a run as that of the node does by these marks: where it needs all parts, and where
+    /// it needs the first one alone.
+    pub fn stops_as<M: Marked>(&self, node: &Node, marks: &M) -> bool
+        requires few { length node.now.label.parts < 256 }
+        ensures { result ≡ true ↔ ((self.now.all_stopped
+            ≡ is_some (suspension (M.marks marks.now) node.now.label.slot node.now.label.parts))
+            × (self.now.one_stopped
+            ≡ is_some (suspension (M.marks marks.now) node.now.label.slot (take 1 node.now.label.parts)))) }
+    {
+        self.all_stopped == suspension(node, marks).is_some()
+            && self.one_stopped == first_suspension(node, marks).is_some()
+    }
+
+    /// The instructions before the codes of the nodes inside, but for the jump.
+    pub fn before(&self) -> &Block<W>
+        ensures { result.now ≡ self.now.pieces.before }
+    {
+        &self.before
+    }
+
+    /// The instructions behind the codes of the nodes inside, but for the jump.
+    pub fn behind(&self) -> &Block<W>
+        ensures { result.now ≡ self.now.pieces.behind }
+    {
+        &self.behind
+    }
+}
+
+impl<W> OwnCode<W> {
+    /// The own code of a node that has none. It takes no memory.
+    pub fn none(alloc: Global) -> OwnCode<W>
+        ensures { result ≡ no_own_code }
+    {
+        OwnCode {
+            slot: Slot(0),
+            kind: NodeKind::ProcedureHole,
+            name: None,
+            counter: None,
+            all_stopped: false,
+            one_stopped: false,
+            before: Block::new(alloc),
+            behind: Block::new(alloc),
+        }
+    }
+}
+
+impl<W> JumpBlocks<W> {
+    /// The jumps of own code that has none. They take no memory.
+    pub fn none(alloc: Global) -> JumpBlocks<W>
+        ensures { result ≡ record { ahead = []; between = []; back = [] } }
+    {
+        JumpBlocks {
+            ahead: Block::new(alloc),
+            between: Block::new(alloc),
+            back: Block::new(alloc),
+        }
+    }
+}
+
+impl<W: Work> OwnCode<W> {
+    /// What the own code of the node is made of, by these marks and these effective items. Its pieces are emitted.
+    pub fn of<M: Marked, D: Scope>(
+        alloc: Global,
+        node: &Node,
+        marks: &M,
+        scope: &D,
+        work: &mut W,
+    ) -> Result<OwnCode<W>, OutOfMemory>
+        requires few { length node.now.label.parts < 256 }
+        ensures code { IfOk result (λ own. own ≡ own_code_by (M.marks marks.now) (D.items scope.now) node.now.label) }
+        ensures counted { IfOk result (λ own. Emits (length own.pieces.before + length own.pieces.behind)
+            (W.counts work.old) (W.counts work.new)) }
+        ensures counts { let pieces = (own_code_by (M.marks marks.now) (D.items scope.now) node.now.label).pieces in
+            EmitsAtMost (length pieces.before + length pieces.behind) (W.counts work.old) (W.counts work.new) }
+    {
+        let items = procedure_items(alloc, scope, node)?;
+        let before = block_before(alloc, node, marks, &items, work)?;
+        let behind = block_behind(alloc, node, marks, work)?;
+        Ok(OwnCode {
+            slot: node.slot(),
+            kind: node.kind(),
+            name: copy_of(name_to_call(node)),
+            counter: copy_of(counter_name(node)),
+            all_stopped: suspension(node, marks).is_some(),
+            one_stopped: first_suspension(node, marks).is_some(),
+            before,
+            behind,
+        })
+    }
+
+    /// The jumps of this own code, where the first code inside has one length, and the others together have another.
+    /// They are emitted.
+    pub fn jumps(
+        &self,
+        alloc: Global,
+        first: u32,
+        others: u32,
+        work: &mut W,
+    ) -> Result<JumpBlocks<W>, OutOfMemory>
+        requires short { length self.now.pieces.before + first + others + 2 ≤ most_instrs }
+        ensures ahead { IfOk result (λ jumps. jumps.ahead
+            ≡ option_to_list (jumps_around self.now first others).ahead) }
+        ensures between { IfOk result (λ jumps. jumps.between
+            ≡ option_to_list (jumps_around self.now first others).between) }
+        ensures back { IfOk result (λ jumps. jumps.back
+            ≡ option_to_list (jumps_around self.now first others).back) }
+        ensures counted { IfOk result (λ jumps. Emits (length jumps.ahead + length jumps.between + length jumps.back)
+            (W.counts work.old) (W.counts work.new)) }
+        ensures counts { let jumps = jumps_around self.now first others in
+            EmitsAtMost (length (option_to_list jumps.ahead)
+            + (length (option_to_list jumps.between) + length (option_to_list jumps.back)))
+            (W.counts work.old) (W.counts work.new) }
+    {
+        let before = self.before.length();
+        let jumps = kind_jumps(
+            self.slot,
+            self.kind,
+            self.counter(),
+            self.all_stopped,
+            self.one_stopped,
+            before,
+            first,
+            others,
+        );
+        let ahead = jump_block(alloc, jumps.ahead, work)?;
+        let between = jump_block(alloc, jumps.between, work)?;
+        let back = jump_block(alloc, jumps.back, work)?;
+        Ok(JumpBlocks {
+            ahead,
+            between,
+            back,
+        })
+    }
+
+    /// The variable with which the node counts, if its own code keeps one.
+    fn counter(&self) -> Option<&Name>
+        ensures { option_map (λ name. name.now) result ≡ self.now.counter }
+    {
+        self.counter.as_ref()
+    }
+}
+
+/// The name by which calls find the procedure of the node, if they do: that in a whole heading that may be called.
+pub fn name_to_call(node: &Node) -> Option<&Name>
+    ensures { option_map (λ name. name.now) result
+        ≡ name_to_call (heading_of node.now.label.kind node.now.label.parts) }
+{
+    let Some(name) = heading_name(node) else {
+        return None;
+    };
+    if !may_be_called(name) {
+        return None;
+    }
+    Some(name)
+}
+
+/// A copy of a name that own code keeps, if there is one.
+fn copy_of(name: Option<&Name>) -> Option<Name>
+    ensures { result ≡ option_map (λ other. other.now) name.entry }
+{
+    match name {
+        Some(name) => Some(name_of(name)),
+        None => None,
+    }
+}
+
+/// The block of what stands in the own code of a node before the codes of the nodes inside it.
+fn block_before<W: Work, M: Marked>(
+    alloc: Global,
+    node: &Node,
+    marks: &M,
+    items: &[Declared],
+    work: &mut W,
+) -> Result<Block<W>, OutOfMemory>
+    requires few { length node.now.label.parts < 256 }
+    ensures code { IfOk result (λ block. block ≡ (own_pieces (M.marks marks.now) items.now node.now.label).before) }
+    ensures counted { OnOk result (Emits (length (own_pieces (M.marks marks.now) items.now node.now.label).before)
+        (W.counts work.old) (W.counts work.new)) }
+    ensures counts { EmitsAtMost (length (own_pieces (M.marks marks.now) items.now node.now.label).before)
+        (W.counts work.old) (W.counts work.new) }
+{
+    let mut draft = Draft::new(alloc);
+    lay_before(alloc, node, marks, items, &mut draft, work);
+    draft.end()?;
+    Ok(draft.into_block())
+}
+
+/// The block of what stands in the own code of a node behind the codes of the nodes inside it.
+fn block_behind<W: Work, M: Marked>(
+    alloc: Global,
+    node: &Node,
+    marks: &M,
+    work: &mut W,
+) -> Result<Block<W>, OutOfMemory>
+    ensures code { IfOk result (λ block. block ≡ (own_pieces (M.marks marks.now) [] node.now.label).behind) }
+    ensures counted { OnOk result (Emits (length (own_pieces (M.marks marks.now) [] node.now.label).behind)
+        (W.counts work.old) (W.counts work.new)) }
+    ensures counts { EmitsAtMost (length (own_pieces (M.marks marks.now) [] node.now.label).behind)
+        (W.counts work.old) (W.counts work.new) }
+{
+    let mut draft = Draft::new(alloc);
+    lay_behind(node, marks, &mut draft, work);
+    draft.end()?;
+    Ok(draft.into_block())
+}
+
+/// The block of a jump, of one instruction or none.
+fn jump_block<W: Work>(
+    alloc: Global,
+    jump: Option<Instr>,
+    work: &mut W,
+) -> Result<Block<W>, OutOfMemory>
+    ensures code { IfOk result (λ block. block ≡ option_to_list (option_map plain_instr jump)) }
+    ensures counted { OnOk result (Emits (length (option_to_list (option_map plain_instr jump)))
+        (W.counts work.old) (W.counts work.new)) }
+    ensures counts { EmitsAtMost (length (option_to_list (option_map plain_instr jump)))
+        (W.counts work.old) (W.counts work.new) }
+{
+    let mut draft = Draft::new(alloc);
+    lay_jump(jump, &mut draft, work);
+    draft.end()?;
+    Ok(draft.into_block())
+}
