@@ -4,7 +4,7 @@ use Rattle.std.specs.Option.{option_or}
 use Rattle.std.proofs.Common.{ap, sym, ◌∙◌}
 use Rattle.template_tree.specs.Edits.Edit.{whole}
 use Rattle.template_tree.specs.Edits.Elision.{is_comment, with_toggled_at}
-use Rattle.template_tree.specs.Edits.Reversal.{Back, Before, CanRevert, elided_now, elision_in, with_elision_of}
+use Rattle.template_tree.specs.Edits.Reversal.{Back, Before, CanRevert, elided_now, elision_in, reverse_of, with_elision_of}
 use Rattle.template_tree.specs.Laws.CheckLaws.{CheckAlike, ChecksIgnoreAllElision}
 use Rattle.template_tree.specs.Laws.TreeLaws.{RevertAlike, RevertsIgnoreElision, TurnsAreElision}
 use Rattle.template_tree.specs.Positions.Stop.{plain_stop}
@@ -126,6 +126,8 @@ same_earlier edit one other spare alike =
       tree = record { items = alike.shown i; spare = spare i; drawn = edit.receipt.drawn; live = edit.receipt.live };
       stop = plain_stop edit.stop;
       weight = edit_weight edit.back;
+      what = reverse_of edit.receipt.change.what;
+      slot = edit.receipt.change.slot.0;
     }
 
 pub shown_fit : RevertsIgnoreElision → (edits : List EditRecord) (one other : PlainTree) → IsTree one → IsTree other

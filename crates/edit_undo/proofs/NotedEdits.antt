@@ -2,7 +2,7 @@
 use Rattle.std.specs.Prelude.{◌≡◌, refl, ℕ, ◌≤◌, List, [], ◌∷◌}
 use Rattle.std.proofs.Common.{ap, sym, ◌∙◌, subst, arith}
 use Rattle.template_tree.specs.Edits.Receipt.{undone}
-use Rattle.template_tree.specs.Edits.Reversal.{Before, CanRevert}
+use Rattle.template_tree.specs.Edits.Reversal.{Before, CanRevert, reverse_of}
 use Rattle.template_tree.specs.Laws.TreeLaws.{RevertsToUndone}
 use Rattle.template_tree.specs.Positions.Stop.{plain_stop}
 use Rattle.template_tree.specs.Programs.Limit.{most_drawn_slots}
@@ -72,14 +72,26 @@ pub noted : RevertsToUndone → (before after : PlainTree) (edit : EditRecord) (
     → IsNoted before after edit edits
 noted law before after edit edits was is undoes can more fits =
     let drawn : ℕ = after.drawn in
+    let latest : EarlierTree =
+    record {
+      tree = as_kept after before;
+      stop = plain_stop edit.stop;
+      weight = edit_weight edit.back;
+      what = reverse_of edit.receipt.change.what;
+      slot = edit.receipt.change.slot.0;
+    } in
     let comes : Before after edit.receipt edit.back ≡ with_drawn before drawn =
     law edit.receipt edit.back after is can ∙ ap (λ (tree : PlainTree). with_drawn tree drawn) undoes in
     record {
       fits = (can, subst (RingFits edits) (sym comes) (drawn_fit edits before drawn more is.drawn_few fits));
       earlier =
           (λ i.
-          record { tree = as_kept after (undoes i); stop = plain_stop edit.stop; weight = edit_weight edit.back }
-          ∷ trees_before edits (comes i))
-          ∙ ap (λ (trees : List EarlierTree). record { tree = as_kept after before; stop = plain_stop edit.stop; weight = edit_weight edit.back } ∷ trees)
-          (drawn_before edits before drawn);
+          record {
+            tree = as_kept after (undoes i);
+            stop = plain_stop edit.stop;
+            weight = edit_weight edit.back;
+            what = reverse_of edit.receipt.change.what;
+            slot = edit.receipt.change.slot.0;
+          } ∷ trees_before edits (comes i))
+          ∙ ap (λ (trees : List EarlierTree). latest ∷ trees) (drawn_before edits before drawn);
     }

@@ -2,9 +2,11 @@
 -- reverting that.
 use Rattle.std.specs.Prelude.{◌≡◌, refl, ℕ, ◌+◌, List, [], ◌∷◌, length, Option, Some, None, option_map}
 use Rattle.std.proofs.Common.{ap, sym, ◌∙◌, subst, arith}
+use Rattle.template_tree.specs.declared.change.Change.{Change}
+use Rattle.template_tree.specs.declared.change.What.{What}
 use Rattle.template_tree.specs.Edits.Edit.{Differs}
 use Rattle.template_tree.specs.Edits.Receipt.{undone}
-use Rattle.template_tree.specs.Edits.Reversal.{Back, IsReverted, given_out}
+use Rattle.template_tree.specs.Edits.Reversal.{Back, IsReverted, given_out, reverse_of}
 use Rattle.template_tree.specs.Laws.RoomLaws.{CountsIgnoreRoom}
 use Rattle.template_tree.specs.Laws.TreeLaws.{RevertsToUndone}
 use Rattle.template_tree.specs.Positions.Stop.{plain_stop}
@@ -49,6 +51,9 @@ module _ (counts : CountsIgnoreRoom) (edit : EditRecord) (edits left : List Edit
         back = reverted.became ∙ sym (back_kept now (undone edit.receipt edit.back now));
         stop = ap plain_stop stop;
         change = subst (Differs now (roomless_tree after)) (sym change) reverted.differs;
+        what = ap (λ (x : Change). x.what) (change ∙ reverted.change);
+        slot = ap (λ (x : Change). x.slot.0) (change ∙ reverted.change);
+        same_change = sym change;
         again = reverted.reverts;
         drawn = reverted.drawn;
         weight = weighs;
@@ -65,6 +70,13 @@ module _ (counts : CountsIgnoreRoom) (edit : EditRecord) (edits left : List Edit
       }
 
 -- ---- what was undone put back
+
+-- what reverses a reversal does what the edit did
+reversed_twice : (what : What) → reverse_of (reverse_of what) ≡ what
+reversed_twice What.Node = refl
+reversed_twice (What.Part part) = refl
+reversed_twice What.Added = refl
+reversed_twice What.Dropped = refl
 
 -- the first of earlier trees, or else this one
 abbrev first_of : EarlierTree → List EarlierTree → EarlierTree
@@ -91,8 +103,9 @@ module _ (law : RevertsToUndone) (counts : CountsIgnoreRoom) (edit : EditRecord)
   -- so the latest of the trees before is as it was
   latest_again : (now earlier : PlainTree) (latest : EarlierTree) → latest.tree ≡ as_kept now earlier → roomless_tree new ≡ now
       → roomless_tree old ≡ Back now latest.tree → plain_stop told.stop ≡ latest.stop → told.receipt.drawn ≡ latest.tree.drawn
-      → edit_weight (given_out told.receipt told.back (roomless_tree old)) ≡ latest.weight → earlier_tree edit (roomless_tree new) ≡ latest
-  latest_again now earlier latest kept same back stop_is drawn weight =
+      → edit_weight (given_out told.receipt told.back (roomless_tree old)) ≡ latest.weight → told.receipt.change.what ≡ latest.what
+      → told.receipt.change.slot.0 ≡ latest.slot → earlier_tree edit (roomless_tree new) ≡ latest
+  latest_again now earlier latest kept same back stop_is drawn weight what slot =
       let with_drawn : PlainTree → PlainTree = λ tree. record tree { drawn = latest.tree.drawn } in
       let tree : as_kept (roomless_tree new) (undone edit.receipt edit.back (roomless_tree new)) ≡ latest.tree =
       (λ i. as_kept (same i) (undoes_to i))
@@ -105,6 +118,8 @@ module _ (law : RevertsToUndone) (counts : CountsIgnoreRoom) (edit : EditRecord)
         tree = tree i;
         stop = (ap plain_stop stop ∙ stop_is) i;
         weight = (same_weight counts edit.back (given_out told.receipt told.back (roomless_tree old)) reverted.out_is ∙ weight) i;
+        what = (ap (λ (x : Change). reverse_of x.what) reverted.change ∙ (reversed_twice told.receipt.change.what ∙ what)) i;
+        slot = (ap (λ (x : Change). x.slot.0) reverted.change ∙ slot) i;
       }
 
   pub put_back_is : (edits : List EditRecord) (before : PlainTree) → UndoesNewest edits before left old told
@@ -113,5 +128,8 @@ module _ (law : RevertsToUndone) (counts : CountsIgnoreRoom) (edit : EditRecord)
   put_back_is edits before undoes =
       let same : roomless_tree new ≡ roomless_tree before = reverted.became ∙ undoes.again in
       let kept = latest_kept edits (roomless_tree before) undoes.latest (trees_before left (roomless_tree old)) undoes.earlier in
-      let latest = latest_again (roomless_tree before) kept.0 undoes.latest kept.1 same undoes.back undoes.stop undoes.drawn undoes.weight in
+      let what = ap (λ (x : Change). x.what) undoes.same_change ∙ undoes.what in
+      let slot = ap (λ (x : Change). x.slot.0) undoes.same_change ∙ undoes.slot in
+      let latest =
+      latest_again (roomless_tree before) kept.0 undoes.latest kept.1 same undoes.back undoes.stop undoes.drawn undoes.weight what slot in
       (same, (λ i. latest i ∷ trees_before left (reverted.reverts i)) ∙ sym undoes.earlier)

@@ -1,19 +1,22 @@
 -- The trees before the latest edits of a tree, as the records of these give them back.
 use Rattle.std.specs.Prelude.{ℕ, List, [], ◌∷◌}
+use Rattle.template_tree.specs.declared.change.What.{What}
 use Rattle.template_tree.specs.Edits.Edit.{whole}
 use Rattle.template_tree.specs.Edits.Receipt.{undone}
-use Rattle.template_tree.specs.Edits.Reversal.{Before, CanRevert, with_elision_of}
+use Rattle.template_tree.specs.Edits.Reversal.{Before, CanRevert, reverse_of, with_elision_of}
 use Rattle.template_tree.specs.Positions.Stop.{PlainStop, plain_stop}
 use Rattle.template_tree.specs.Programs.PlainTree.{PlainTree}
 use Rattle.edit_undo.specs.EditLimit.{edit_weight, latest_within, most_edits, most_taken_slots}
 use Rattle.edit_undo.specs.declared.edit_record.EditRecord.{EditRecord}
 
--- an earlier tree, which can be gone back to: the tree before an edit as it is kept, the stop of the cursor in it, and
--- the weight of the edit
+-- an earlier tree, which can be gone back to: the tree before an edit as it is kept, the stop of the cursor in it, the
+-- weight of the edit, and what going back does in which slot
 pub record EarlierTree : Type 0 where
   pub tree : PlainTree
   pub stop : PlainStop
   pub weight : ℕ
+  pub what : What
+  pub slot : ℕ
 
 -- a tree as it is kept to be gone back to, where this one came after it: a comment that stands in both is shown in it,
 -- since it takes the elision that it has by then; one that comes back has the elision that it had
@@ -26,6 +29,8 @@ earlier_tree edit tree = record {
   tree = as_kept tree (undone edit.receipt edit.back tree);
   stop = plain_stop edit.stop;
   weight = edit_weight edit.back;
+  what = reverse_of edit.receipt.change.what;
+  slot = edit.receipt.change.slot.0;
 }
 
 -- the trees before this one, by the records of the edits that led to it, the latest first

@@ -3,7 +3,7 @@ use Rattle.std.specs.Prelude.{◌≡◌, List, ℕ, ◌∷◌, ◌≤◌}
 use Rattle.template_tree.specs.Edits.Edit.{whole}
 use Rattle.template_tree.specs.Edits.Elision.{with_toggled_at}
 use Rattle.template_tree.specs.Edits.Receipt.{undone}
-use Rattle.template_tree.specs.Edits.Reversal.{Back, CanRevert}
+use Rattle.template_tree.specs.Edits.Reversal.{Back, CanRevert, reverse_of}
 use Rattle.template_tree.specs.Laws.CheckLaws.{CheckAlike}
 use Rattle.template_tree.specs.Positions.Stop.{plain_stop}
 use Rattle.template_tree.specs.Programs.PlainTree.{PlainTree}
@@ -18,8 +18,13 @@ pub record IsNoted (before after : PlainTree) (edit : EditRecord) (edits : List 
   pub fits : RingFits (edit ∷ edits) after
   pub earlier :
       trees_before (edit ∷ edits) after
-      ≡ record { tree = as_kept after before; stop = plain_stop edit.stop; weight = edit_weight edit.back }
-      ∷ trees_before edits before
+      ≡ record {
+        tree = as_kept after before;
+        stop = plain_stop edit.stop;
+        weight = edit_weight edit.back;
+        what = reverse_of edit.receipt.change.what;
+        slot = edit.receipt.change.slot.0;
+      } ∷ trees_before edits before
 
 -- the law of an edit that was made: noted with the edits that fitted the tree before it, it fits the tree after it
 abbrev pub EditsAreNoted : Type 0

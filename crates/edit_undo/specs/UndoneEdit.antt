@@ -11,7 +11,7 @@ use Rattle.edit_undo.specs.declared.edit_record.EditRecord.{EditRecord}
 use Rattle.edit_undo.specs.declared.undone.Undone.{Undone}
 
 -- the newest of these edits was undone: the latest earlier tree came back, and those before it are left. What is told
--- of it says how the two trees differ and where the cursor stood, and puts both back
+-- of it says how the two trees differ, by what is kept of going back, and where the cursor stood, and puts both back
 pub record UndoesNewest (edits : List EditRecord) (before : PlainTree) (left : List EditRecord) (after : PlainTree)
     (told : Undone) : Type 0 where
   pub latest : EarlierTree
@@ -20,6 +20,9 @@ pub record UndoesNewest (edits : List EditRecord) (before : PlainTree) (left : L
   pub back : roomless_tree after ≡ Back (roomless_tree before) latest.tree
   pub stop : plain_stop told.stop ≡ latest.stop
   pub change : Differs (roomless_tree before) (roomless_tree after) told.change
+  pub what : told.change.what ≡ latest.what
+  pub slot : told.change.slot.0 ≡ latest.slot
+  pub same_change : told.receipt.change ≡ told.change
   pub again : Before (roomless_tree after) told.receipt told.back ≡ roomless_tree before
   pub drawn : told.receipt.drawn ≡ latest.tree.drawn
   pub weight : edit_weight (given_out told.receipt told.back (roomless_tree after)) ≡ latest.weight

@@ -5,7 +5,7 @@ use Rattle.decl_table.specs.Agreement.{IsDeclsOf}
 use Rattle.decl_table.specs.PlainDecls.{PlainDecls}
 use Rattle.template_tree.specs.Checks.Environment.{item_named}
 use Rattle.template_tree.specs.Programs.PlainTree.{Forest, PlainNode}
-use Rattle.type_marks.specs.Agreement.{Knows}
+use Rattle.decl_table.specs.Knowledge.{Knows}
 
 -- the table of a program knows all that is asked for where a phrase of it is checked
 pub knows : (decls : PlainDecls) (program : Forest) → IsDeclsOf decls program → (procedure : PlainNode) (phrase : PlainPhrase)

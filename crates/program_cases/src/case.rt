@@ -13,6 +13,8 @@ pub enum Case {
     Elide,
     /// Edits the program, and mends its layout.
     Mend,
+    /// Edits the program, and checks again what is due.
+    Recheck,
     /// Tries a phrase in a part that is empty before and behind.
     Check,
     /// Marks a phrase by hand, or none.
@@ -40,11 +42,12 @@ pub enum Case {
 }
 
 /// The cases on what is derived from a program, with their names.
-pub static CASES: [(&[u8], Case); 20] = [
+pub static CASES: [(&[u8], Case); 21] = [
     (b"program", Case::Program),
     (b"take", Case::Take),
     (b"elide", Case::Elide),
     (b"mend", Case::Mend),
+    (b"recheck", Case::Recheck),
     (b"check", Case::Check),
     (b"mark", Case::Mark),
     (b"declared", Case::About(Question::Declared)),

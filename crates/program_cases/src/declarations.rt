@@ -56,7 +56,10 @@ fn answer(
             told.value(&decls.signature(&name));
         }
         Question::Parameter => tell_parameter(alloc, decls, words, told)?,
-        Question::Uses => tell_uses(decls.uses(&Name::read(word_at(words, 0))?), told),
+        Question::Uses => {
+            tell_places(decls.uses(&Name::read(word_at(words, 0))?), told);
+            told.put(b'\n');
+        }
     }
     Some(())
 }
@@ -103,7 +106,7 @@ fn tell_parameter(alloc: Global, decls: &Decls, words: &[Vec<u8>], told: &mut To
 }
 
 /// The names that the words are, of which the table of declarations is asked.
-fn names_of(alloc: Global, words: &[Vec<u8>]) -> Option<Vec<Name>> {
+pub fn names_of(alloc: Global, words: &[Vec<u8>]) -> Option<Vec<Name>> {
     let mut names = Vec::new(alloc);
     for word in words {
         names.push(Name::read(word.as_slice())?).ok()?;
@@ -111,16 +114,14 @@ fn names_of(alloc: Global, words: &[Vec<u8>]) -> Option<Vec<Name>> {
     Some(names)
 }
 
-/// Tells the uses that the table of declarations has of a name: the slots and the parts of the phrases that mention
-/// it.
-fn tell_uses(uses: &[PhraseAt], told: &mut Told) {
-    for (number, at) in uses.iter().enumerate() {
+/// Tells places that the table of declarations has of phrases, as the uses of a name: the slots and the parts.
+pub fn tell_places(places: &[PhraseAt], told: &mut Told) {
+    for (number, at) in places.iter().enumerate() {
         if number > 0 {
             told.put(b' ');
         }
         tell_place(*at, told);
     }
-    told.put(b'\n');
 }
 
 /// Tells the place of a use that the table of declarations has: the slot and the part of a phrase.

@@ -12,11 +12,15 @@ mod homes;
 mod lines;
 mod marks;
 mod mending;
+mod node_edit;
 mod one_mark;
 mod paintings;
+mod phrase_edit;
 mod phrase_text;
 mod program;
 mod random;
+mod rechecking;
+mod same_checks;
 mod screens;
 mod sums;
 mod terminals;
@@ -32,6 +36,7 @@ use crate::marks::{check, marks};
 use crate::mending::mend;
 use crate::paintings::paintings;
 use crate::program::{elide, read_program, take};
+use crate::rechecking::recheck;
 use crate::screens::{grid, paint_grid};
 use crate::sums::sums;
 use crate::terminals::terminal;
@@ -118,6 +123,7 @@ fn play(
         Case::Take => take(alloc, &mut held.tree, words, told),
         Case::Elide => elide(alloc, &mut held.tree, words, told),
         Case::Mend => mend(alloc, &mut held.tree, words, told),
+        Case::Recheck => recheck(alloc, &mut held.tree, held.text.as_slice(), words, told),
         Case::Check => check(alloc, &mut held.tree, words, told),
         _ => ask(alloc, held, case, words, told),
     }

@@ -47,7 +47,7 @@ fn set(tree: &mut Tree, stop: &Stop, place: PhrasePlace) -> Option<()>
 }
 
 /// What the text, of which the mark is told, reads as in the part at the stop.
-fn place_at(alloc: Global, tree: &Tree, stop: &Stop, text: &[u8]) -> Option<PhrasePlace>
+pub fn place_at(alloc: Global, tree: &Tree, stop: &Stop, text: &[u8]) -> Option<PhrasePlace>
     requires { IsTree tree.now }
     ensures { IfSome result (λ place. IsPhrasePlace (plain_phrase_place place)) }
 {
@@ -90,7 +90,7 @@ fn tell_nodes(
 )
     requires tree { IsTree tree.now }
     requires decls { IsDeclsOf decls.now tree.now.items }
-    requires marks { marks.now ≡ Verdicts tree.now.items }
+    requires marks { marks.now.verdicts ≡ Verdicts tree.now.items }
 {
     let mut left = tree.slots();
     for slot in 0..MOST_SLOTS {
@@ -116,7 +116,7 @@ fn tell_node(
 )
     requires tree { IsTree tree.now }
     requires decls { IsDeclsOf decls.now tree.now.items }
-    requires marks { marks.now ≡ Verdicts tree.now.items }
+    requires marks { marks.now.verdicts ≡ Verdicts tree.now.items }
 {
     for part in 0..u8::MAX {
         let at = PhraseAt {
@@ -143,7 +143,7 @@ fn mark_of(
 ) -> Option<Option<MarkKind>>
     requires tree { IsTree tree.now }
     requires decls { IsDeclsOf decls.now tree.now.items }
-    requires marks { marks.now ≡ Verdicts tree.now.items }
+    requires marks { marks.now.verdicts ≡ Verdicts tree.now.items }
 {
     let kept = marks.verdict(at)?.kind();
     let mut work = Counts::default();

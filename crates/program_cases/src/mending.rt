@@ -1,35 +1,16 @@
 //! Edits of a program, after each of which one layout is mended.
-ghost use Rattle.std.specs.Prelude.{◌≡◌, IfErr, IfOk, OnSome};
-ghost use Rattle.template_tree.specs.Edits.Edit.{Differs};
+ghost use Rattle.std.specs.Prelude.{OnSome};
 ghost use Rattle.template_tree.specs.Programs.Tree.{IsTree};
 ghost use Rattle.unparse_layout.specs.Agreement.{IsLayoutOf};
 
 use crate::lines::same_lines;
+use crate::node_edit::{NODE_EDITS, NodeEdit, edited_at};
 use crate::program::path_to;
 use case_script::{Told, meaning, number_of};
 use plcs_base::Counts;
 use std::alloc::Global;
-use template_tree::{Change, Path, Side, Tree, TreeFault};
+use template_tree::{Path, Tree, TreeFault};
 use unparse_layout::Layout;
-
-/// An edit of a program at a node, after which the layout is mended.
-#[derive(Clone, Copy)]
-enum Mending {
-    /// The node is taken out, and a hole stays.
-    Take,
-    /// A hole is added on this side of the item.
-    Add(Side),
-    /// The hole is dropped from its list.
-    Drop,
-}
-
-/// The edits after which the layout is mended, with their names.
-static MENDINGS: [(&[u8], Mending); 4] = [
-    (b"take", Mending::Take),
-    (b"before", Mending::Add(Side::Before)),
-    (b"after", Mending::Add(Side::After)),
-    (b"drop", Mending::Drop),
-];
 
 /// Edits the program: does at each slot what the last word before it names, and mends one layout each time.
 pub fn mend(alloc: Global, tree: &mut Tree, words: &[Vec<u8>], told: &mut Told) -> Option<()>
@@ -52,13 +33,13 @@ fn mend_each(
     requires agrees { IsLayoutOf layout.old tree.old }
     ensures { IsTree tree.new }
 {
-    let mut mending = Mending::Take;
+    let mut edit = NodeEdit::Take;
     for word in words {
-        match meaning(&MENDINGS, word.as_slice()) {
-            Some(named) => mending = named,
+        match meaning(&NODE_EDITS, word.as_slice()) {
+            Some(named) => edit = named,
             None => {
                 let slot = number_of(word.as_slice())?;
-                tell_mended(alloc, layout, tree, mending, slot, told)?;
+                tell_mended(alloc, layout, tree, edit, slot, told)?;
             }
         }
     }
@@ -71,7 +52,7 @@ fn tell_mended(
     alloc: Global,
     layout: &mut Layout<Counts>,
     tree: &mut Tree,
-    mending: Mending,
+    edit: NodeEdit,
     slot: u32,
     told: &mut Told,
 ) -> Option<()>
@@ -81,7 +62,7 @@ fn tell_mended(
     ensures agrees { OnSome result (IsLayoutOf layout.new tree.new) }
 {
     let path = path_to(tree, slot);
-    let fault = edit_and_mend(alloc, layout, tree, mending, &path)?;
+    let fault = edit_and_mend(alloc, layout, tree, edit, &path)?;
     told.value(&fault);
     told.text(", ");
     told.value(&layout.lines());
@@ -96,7 +77,7 @@ fn edit_and_mend(
     alloc: Global,
     layout: &mut Layout<Counts>,
     tree: &mut Tree,
-    mending: Mending,
+    edit: NodeEdit,
     path: &Path,
 ) -> Option<Option<TreeFault>>
     requires tree { IsTree tree.old }
@@ -104,40 +85,12 @@ fn edit_and_mend(
     ensures tree { IsTree tree.new }
     ensures agrees { OnSome result (IsLayoutOf layout.new tree.new) }
 {
-    match edited(alloc, tree, mending, path) {
+    match edited_at(alloc, tree, edit, path) {
         Ok(change) => {
             let prepared = layout.prepare(alloc, tree, &change).ok()?;
             layout.commit(prepared);
             Some(None)
         }
         Err(fault) => Some(Some(fault)),
-    }
-}
-
-/// Edits the program at the path, and tells what was changed.
-fn edited(
-    alloc: Global,
-    tree: &mut Tree,
-    mending: Mending,
-    path: &Path,
-) -> Result<Change, TreeFault>
-    requires tree { IsTree tree.old }
-    ensures tree { IsTree tree.new }
-    ensures edited { IfOk result (Differs tree.old tree.new) }
-    ensures refused { IfErr result (λ _. tree.new ≡ tree.old) }
-{
-    match mending {
-        Mending::Take => {
-            let (_, receipt) = tree.take(alloc, path)?;
-            Ok(receipt.change())
-        }
-        Mending::Add(side) => {
-            let receipt = tree.add_hole(alloc, path, side)?;
-            Ok(receipt.change())
-        }
-        Mending::Drop => {
-            let receipt = tree.drop_hole(path)?;
-            Ok(receipt.change())
-        }
     }
 }

@@ -90,12 +90,14 @@ enum Case {
     Content,
     Told,
     Counted,
+    Emitted,
+    Checked,
     Feed,
     Status,
 }
 
 /// The first words of the cases on whole sessions.
-static CASES: [(&[u8], Case); 17] = [
+static CASES: [(&[u8], Case); 19] = [
     (b"from", Case::From),
     (b"on", Case::On),
     (b"listing", Case::Listing),
@@ -111,6 +113,8 @@ static CASES: [(&[u8], Case); 17] = [
     (b"content", Case::Content),
     (b"told", Case::Told),
     (b"counted", Case::Counted),
+    (b"emitted", Case::Emitted),
+    (b"checked", Case::Checked),
     (b"feed", Case::Feed),
     (b"status", Case::Status),
 ];
@@ -136,6 +140,8 @@ fn play(alloc: Global, scene: &mut Scene, case: Case, arguments: &[Vec<u8>]) -> 
         (Case::Content, [name]) => file_cases::content(scene, name),
         (Case::Told, [keys]) => file_cases::told(alloc, scene, keys),
         (Case::Counted, [before, last]) => whole_run_cases::counted(alloc, scene, before, last),
+        (Case::Emitted, [before, last]) => whole_run_cases::emitted(alloc, scene, before, last),
+        (Case::Checked, [before, last]) => whole_run_cases::checked(alloc, scene, before, last),
         (Case::Feed, words) => key_cases::feed(words, &mut scene.told),
         (Case::Status, []) => key_cases::status(&mut scene.told),
         _ => None,

@@ -41,6 +41,16 @@ impl Played {
         self.counts.fetched
     }
 
+    /// How many instructions were emitted in a run of the editor that was played in memory.
+    pub fn emitted(&self) -> u64 {
+        self.counts.emitted
+    }
+
+    /// How many phrases were checked in a run of the editor that was played in memory.
+    pub fn checked(&self) -> u64 {
+        self.counts.checked
+    }
+
     /// All bytes that the sink took in a run of the editor.
     pub fn written(&self) -> &[u8] {
         self.screen.bytes()

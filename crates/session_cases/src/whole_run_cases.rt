@@ -122,6 +122,30 @@ pub fn counted(alloc: Global, scene: &mut Scene, before: &[u8], last: &[u8]) -> 
     Some(())
 }
 
+/// `emitted BEFORE LAST`: how many instructions a whole run emits for the last keys behind those before, on a screen
+/// of 12 rows and 40 columns, where the keys end both times.
+pub fn emitted(alloc: Global, scene: &mut Scene, before: &[u8], last: &[u8]) -> Option<()> {
+    let first = play_on(alloc, b"12", b"40", before)?;
+    let whole = play_behind(alloc, before, last)?;
+    scene
+        .told
+        .value(&whole.emitted().saturating_sub(first.emitted()));
+    scene.told.line(" emitted");
+    Some(())
+}
+
+/// `checked BEFORE LAST`: how many phrases a whole run checks for the last keys behind those before, on a screen of 12
+/// rows and 40 columns, where the keys end both times.
+pub fn checked(alloc: Global, scene: &mut Scene, before: &[u8], last: &[u8]) -> Option<()> {
+    let first = play_on(alloc, b"12", b"40", before)?;
+    let whole = play_behind(alloc, before, last)?;
+    scene
+        .told
+        .value(&whole.checked().saturating_sub(first.checked()));
+    scene.told.line(" checked");
+    Some(())
+}
+
 /// `bytes BEFORE LAST`: what the editor writes for the last keys behind those before, on a screen of 12 rows
 /// and 40 columns, where the keys end both times.
 pub fn bytes(alloc: Global, scene: &mut Scene, before: &[u8], last: &[u8]) -> Option<()> {

@@ -7,6 +7,7 @@ use Rattle.plcs_base.specs.PlainCounts.{PlainCounts}
 use Rattle.plcs_store.specs.declared.reason.RunReason.{RunReason}
 use Rattle.plcs_machine.specs.Exec.{Exec}
 use Rattle.plcs_machine.specs.Fetched.{FetchesAtMost, FetchesBy}
+use Rattle.code_patch.specs.CodeForest.{told_code}
 use Rattle.synth_session.specs.declared.program.Program.{Program}
 use Rattle.synth_session.specs.declared.session.Session.{Session}
 use Rattle.synth_session.specs.declared.tick.Tick.{Tick}
@@ -89,7 +90,7 @@ left_more s less = omega (arith, less)
 -- the steps of a session with the same code and the same input are the same
 pub own_same : {W : Type 0} (one other : Session W) → other.program ≡ one.program → other.input ≡ one.input → own_steps other ≡ own_steps one
 own_same {W} one other program input =
-    ap₂ (λ (p : Program W) (i : List ℕ). let s : Steps = Exec p.dependents.code i in s) program input
+    ap₂ (λ (p : Program W) (i : List ℕ). let s : Steps = Exec (told_code p.dependents.code.items) i in s) program input
 
 -- and its code is that of its program, as it was
 pub same_code : {W : Type 0} (one other : Session W) → other.program ≡ one.program → HasProgramCode one → HasProgramCode other

@@ -9,8 +9,7 @@ use Rattle.synth_session.specs.declared.program.Program.{Program}
 use Rattle.synth_session.specs.declared.session.Session.{Session}
 use Rattle.synth_session.specs.PlainHeldRun.{PlainHeldRun}
 use Rattle.synth_session.specs.PlainScreens.{PlainScreens}
-use Rattle.synth_session.specs.ProgramCode.{code_of}
-use Rattle.synth_session.specs.SessionView.{Agrees, EditsFit, HasFittingEdits, HasFittingRun, HasProgramCode, IsPlaced, IsSeen, IsSession, plain_run, plain_session}
+use Rattle.synth_session.specs.SessionView.{Agrees, EditsFit, HasFittingEdits, HasFittingRun, HasProgramCode, IsCodeFor, IsPlaced, IsSeen, IsSession, plain_run, plain_session}
 use Rattle.synth_session.proofs.KeptRuns.{MayGoOnIfStands}
 
 -- the run that is held, if one stands, may be asked whether it goes on in the program to which these edits led
@@ -44,7 +43,8 @@ module _ {W : Type 0} where
   pub drawn_code : (old now : Session W) → now.program.tree ≡ old.program.tree → now.program.dependents ≡ old.program.dependents
       → HasProgramCode old → HasProgramCode now
   drawn_code old now tree dependents code =
-      ap (λ (d : Dependents W). d.code) dependents ∙ code ∙ sym (ap (λ (t : PlainTree). code_of (roomless_tree t)) tree)
+      subst (λ (d : Dependents W). IsCodeFor d.code (roomless_tree now.program.tree)) (sym dependents)
+      (subst (λ (t : PlainTree). IsCodeFor old.program.dependents.code (roomless_tree t)) (sym tree) code)
 
   -- its run may go on as before
   pub drawn_run : (old now : Session W) → now.program.tree ≡ old.program.tree → now.run ≡ old.run → now.edits ≡ old.edits

@@ -84,7 +84,7 @@ module _ {W : Type 0} where
       same
 
   -- and keeps its conditions, where what depends on the program is that of the program
-  pub ready_without_room : (s : Session W) (program : Program W) → Agrees program → (HasCode s.program → HasCode program)
+  pub ready_without_room : (s : Session W) (program : Program W) → Agrees program → HasCode program
       → roomless_tree program.tree ≡ roomless_tree s.program.tree → IsReadyForKey s → IsReadyForKey (record s { program = program })
   ready_without_room s program agrees code same ready =
       let back = sym same in
@@ -100,7 +100,7 @@ module _ {W : Type 0} where
             to = subst (λ (t : PlainTree). line_at t.items (plain_stop s.stop) < s.top + window_rows s.screens.shown.rows) back ready.session.seen.to;
           };
         };
-        code = code ready.code;
+        code = code;
         run = subst (λ (t : PlainTree). MayGoOnIfStands t (trees_before s.edits t) s.run.undos s.run.run) back ready.run;
         edits = subst (EditsFit s.edits) back ready.edits;
       }
@@ -109,30 +109,30 @@ module _ {W : Type 0} where
 
 module _ {before now : PlainCounts} where
   -- the key counts what its edit does
-  pub edit_counted : (s : PlainSession) (outcome : Edited) → CountsEdit outcome before now
+  pub edit_counted : (s : PlainSession) (outcome : Edited) → CountsEdit s.tree outcome before now
       → CountsPressed (edit_outcome s outcome).checks (edit_outcome s outcome).emits (edit_outcome s outcome).fetches (edit_outcome s outcome).fetches
       before now
   edit_counted s (Edited.became tree stop taken what slot) counts = key_counted _ _ counts
   edit_counted s (Edited.refused fault) counts = subst (λ (c : PlainCounts). CountsPressed 0 0 0 0 before c) (sym counts) (key_free 0 0)
 
-  pub edit_wanted : (s : PlainSession) (outcome : Edited) → CountsEdit outcome before now
+  pub edit_wanted : (s : PlainSession) (outcome : Edited) → CountsEdit s.tree outcome before now
       → CountsPressedAtMost (edit_outcome s outcome).checks (edit_outcome s outcome).emits (edit_outcome s outcome).fetches before now
   edit_wanted s (Edited.became tree stop taken what slot) counts = want_counted _ _ _ counts
   edit_wanted s (Edited.refused fault) counts = subst (λ (c : PlainCounts). CountsPressedAtMost 0 0 0 before c) (sym counts) (want_free 0 0 0)
 
-  pub edited_counted : (s : PlainSession) (edit : PlainEdit) → CountsEdit (edited s.tree s.stop edit) before now
+  pub edited_counted : (s : PlainSession) (edit : PlainEdit) → CountsEdit s.tree (edited s.tree s.stop edit) before now
       → CountsPressed (edited_by s edit).checks (edited_by s edit).emits (edited_by s edit).fetches (edited_by s edit).fetches before now
   unfolding edited_by
   edited_counted s edit counts = edit_counted s (edited s.tree s.stop edit) counts
 
-  pub edited_wanted : (s : PlainSession) (edit : PlainEdit) → CountsEdit (edited s.tree s.stop edit) before now
+  pub edited_wanted : (s : PlainSession) (edit : PlainEdit) → CountsEdit s.tree (edited s.tree s.stop edit) before now
       → CountsPressedAtMost (edited_by s edit).checks (edited_by s edit).emits (edited_by s edit).fetches before now
   unfolding edited_by
   edited_wanted s edit counts = edit_wanted s (edited s.tree s.stop edit) counts
 
   -- so does a key that cuts what stands there
   pub cut_counted : (s : PlainSession) (name : List ℕ) (outcome : Edited) (fragment : Option PlainFragment) → (None ≡ fragment → ⊥)
-      → CountsEdit outcome before now
+      → CountsEdit s.tree outcome before now
       → CountsPressed (cut_outcome s name outcome fragment).checks (cut_outcome s name outcome fragment).emits
       (cut_outcome s name outcome fragment).fetches (cut_outcome s name outcome fragment).fetches before now
   cut_counted s name (Edited.became tree stop taken what slot) None some counts = absurd (some refl)
@@ -141,7 +141,7 @@ module _ {before now : PlainCounts} where
       subst (λ (c : PlainCounts). CountsPressed 0 0 0 0 before c) (sym counts) (key_free 0 0)
 
   pub cut_wanted : (s : PlainSession) (name : List ℕ) (outcome : Edited) (fragment : Option PlainFragment) → (None ≡ fragment → ⊥)
-      → CountsEdit outcome before now
+      → CountsEdit s.tree outcome before now
       → CountsPressedAtMost (cut_outcome s name outcome fragment).checks (cut_outcome s name outcome fragment).emits
       (cut_outcome s name outcome fragment).fetches before now
   cut_wanted s name (Edited.became tree stop taken what slot) None some counts = absurd (some refl)

@@ -50,8 +50,11 @@ pub mod SoundPhrases
 pub mod LineTexts
 -- clauses of slots_there and copy_there
 pub mod ClipFragments
--- `agrees` of change: the layout where an edit is undone
+-- `agrees` and `code` of change and undo: what depends on the program where an edit is undone
 pub mod AgreeingDependents
+-- clauses of Dependents::renew, of what it calls, of change and of undo: what is prepared of an edit, and what is
+-- counted for it
+pub mod PreparedPrograms
 -- `rows`, `many` and `counted` of fill
 pub mod CodeLines
 -- `span` and `count` of code_span
@@ -60,7 +63,7 @@ pub mod NodeCodes
 pub mod CodeRowTexts
 -- `back` of take_back
 pub mod RunsTakenBack
--- `code` of Dependents::of and toggle_elision: the code that is made of a tree
+-- `code` of Dependents::of, toggle_elision and prepare_code: the code that is kept of a tree
 pub mod ProgramCodes
 -- `counts` of Dependents::of, of cut and of keys that are refused: what is counted at most
 pub mod CountedPrograms

@@ -13,12 +13,11 @@ use Rattle.tree_steps.specs.AgreementLaws.{EarlierAgreesAlike, EditStepsKeepAgre
 use Rattle.tree_steps.specs.EditStep.{IsEditStep}
 use Rattle.tree_steps.specs.EditStepLaws.{RoomIsNoEdit}
 use Rattle.tree_steps.specs.SlotAgreement.{AgreesWith}
-use Rattle.edit_undo.specs.EarlierTree.{EarlierTree, RingFits, as_kept, earlier_tree, kept_trees, trees_before}
+use Rattle.edit_undo.specs.EarlierTree.{EarlierTree, RingFits, earlier_tree, kept_trees, trees_before}
 use Rattle.edit_undo.specs.EditLaws.{EditsAreNoted, IsNoted, UndoneTreesCheckAlike}
-use Rattle.edit_undo.specs.EditLimit.{edit_weight}
 use Rattle.edit_undo.specs.declared.edit_record.EditRecord.{EditRecord}
 use Rattle.session_edit.specs.declared.applied.Applied.{Applied}
-use Rattle.synth_session.specs.Private.EditedProgram.{CameFrom, noted_trees, program_before}
+use Rattle.synth_session.specs.Private.EditedProgram.{CameFrom, noted_before, noted_trees, program_before}
 use Rattle.synth_session.specs.SessionView.{AgreeInTurn, EditsFit, HasStop}
 use Rattle.synth_session.proofs.EarlierAgreements.{AgreesBack, kept_all, noted_back, noted_turn, step_agrees}
 use Rattle.synth_session.proofs.NotedStops.{kept_stop}
@@ -58,7 +57,7 @@ pub stood_noted : GoingBackAgrees → UndoneTreesCheckAlike → (tree : PlainTre
     → AgreesWith stood tree × AgreesBack stood tree (noted_trees (program_before applied tree) edits at tree applied)
 stood_noted back undone tree edits at applied came stood agrees all =
     let before = program_before applied tree in
-    let latest : EarlierTree = record { tree = as_kept tree before; stop = at; weight = edit_weight applied.taken } in
+    let latest : EarlierTree = noted_before before at tree applied in
     (came.keeps stood agrees, noted_back back undone stood before tree agrees came.drawn latest refl (trees_before edits before) all)
 
 -- ---- an edit that is noted
@@ -87,8 +86,7 @@ module _ (law : EditsAreNoted) (back : GoingBackAgrees) (alike : EarlierAgreesAl
     noted_fit fits =
         let before = program_before applied tree in
         let earlier = trees_before edits before in
-        let latest : EarlierTree =
-        record { tree = as_kept tree before; stop = plain_stop stop; weight = edit_weight applied.taken } in
+        let latest : EarlierTree = noted_before before (plain_stop stop) tree applied in
         record {
           fits = fits is_noted.fits;
           stops =

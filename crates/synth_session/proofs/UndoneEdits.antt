@@ -1,8 +1,9 @@
 -- undo and undo_edit: the cursor stands in the tree that comes back; once the newest edit is undone the others fit
 -- the program, and a run that stood agrees with it and with the trees before.
-use Rattle.std.proofs.Common.{◌≡◌, List, [], ◌∷◌, length, arith, Option, Some, None, option_map, refl, sym, ap, subst, ◌∙◌}
+use Rattle.std.proofs.Common.{◌≡◌, ℕ, List, [], ◌∷◌, length, arith, Option, Some, None, option_map, refl, sym, ap, subst, ◌∙◌}
 use Rattle.std.proofs.lemmas.List.Elements.{All-head, All-tail}
 use Rattle.std.specs.List.{All}
+use Rattle.template_tree.specs.declared.change.What.{What}
 use Rattle.template_tree.specs.Laws.RoomLaws.{NodesIgnoreRoom}
 use Rattle.template_tree.specs.Positions.Path.{node_at}
 use Rattle.template_tree.specs.Positions.Stop.{PlainStop, plain_stop}
@@ -15,9 +16,9 @@ use Rattle.edit_undo.specs.UndoneEdit.{UndoesNewest}
 use Rattle.edit_undo.specs.declared.edit_record.EditRecord.{EditRecord}
 use Rattle.edit_undo.specs.declared.undone.Undone.{Undone}
 use Rattle.plcs_base.specs.PlainCounts.{PlainCounts}
-use Rattle.synth_session.specs.CheckedPhrases.{phrase_count}
 use Rattle.synth_session.specs.CountedKey.{CountsProgram}
-use Rattle.synth_session.specs.ProgramCode.{code_length}
+use Rattle.synth_session.specs.ProgramBill.{program_bill}
+use Rattle.synth_session.specs.ProgramDue.{program_due}
 use Rattle.synth_session.specs.Private.UndoneProgram.{CountsBackTo, CountsUndo, GoesBackTo}
 use Rattle.synth_session.specs.SessionView.{AgreeInTurn, EditsFit, HasStop}
 use Rattle.synth_session.specs.UndoCommand.{stop_or_comment}
@@ -81,13 +82,29 @@ module _ (before after : PlainTree) (edits left : List EditRecord) (told : Undon
         stop_is = is ∙ ap (stop_or_comment (roomless_tree after)) undoes.stop;
       }
 
-  -- what is counted for the tree that came back is what undoing counts
+  -- what is counted for the change that is told is what undoing counts, since that is kept of going back
   pub goes_back_counted : {counts_before counts_now : PlainCounts}
-      → CountsProgram (phrase_count (roomless_tree after)) (code_length (roomless_tree after)) counts_before counts_now
+      → CountsProgram (program_due told.change.what told.change.slot.0 (roomless_tree before) (roomless_tree after))
+      (program_bill told.change.what told.change.slot.0 (roomless_tree before) (roomless_tree after)) counts_before counts_now
       → CountsUndo edits (roomless_tree before) counts_before counts_now
   goes_back_counted {counts_before} {counts_now} counts =
+      let latest = undoes.latest in
       subst (λ (earlier : List EarlierTree). CountsBackTo earlier (roomless_tree before) counts_before counts_now) (sym undoes.earlier)
-      (subst (λ (tree : PlainTree). CountsProgram (phrase_count tree) (code_length tree) counts_before counts_now) undoes.back counts)
+      (subst
+      (λ (tree : PlainTree).
+      CountsProgram (program_due latest.what latest.slot (roomless_tree before) tree)
+      (program_bill latest.what latest.slot (roomless_tree before) tree) counts_before counts_now)
+      undoes.back
+      (subst
+      (λ (slot : ℕ).
+      CountsProgram (program_due latest.what slot (roomless_tree before) (roomless_tree after))
+      (program_bill latest.what slot (roomless_tree before) (roomless_tree after)) counts_before counts_now)
+      undoes.slot
+      (subst
+      (λ (what : What).
+      CountsProgram (program_due what told.change.slot.0 (roomless_tree before) (roomless_tree after))
+      (program_bill what told.change.slot.0 (roomless_tree before) (roomless_tree after)) counts_before counts_now)
+      undoes.what counts)))
 
   -- where one is undone some are held
   pub some_held : edits ≡ [] → ⊥

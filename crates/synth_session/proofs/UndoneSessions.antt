@@ -32,8 +32,8 @@ latest_kept latest earlier light =
     kept_if (nat_le latest.weight most_taken_slots) latest (others_kept latest earlier) (le-leb latest.weight most_taken_slots light)
 
 pub edits_are_kept : EditsAreKept
-edits_are_kept s tree stop taken light =
-    let latest : EarlierTree = kept_before s tree taken in (others_kept latest s.earlier, latest_kept latest s.earlier light)
+edits_are_kept s tree stop taken what slot light =
+    let latest : EarlierTree = kept_before s tree taken what slot in (others_kept latest s.earlier, latest_kept latest s.earlier light)
 
 module _ (undone : UndoneTreesCheckAlike) (checks : ChecksIgnoreAllElision) (code : ProgramCodeIgnoresAllElision)
     (frames : AnswersFollowFrames) (same_for : SubstanceHasSame) where
@@ -56,6 +56,6 @@ module _ (undone : UndoneTreesCheckAlike) (checks : ChecksIgnoreAllElision) (cod
       }
 
   pub undo_comes_back : UndoComesBack
-  undo_comes_back s later tree taken others is =
+  undo_comes_back s later tree taken what slot others is =
       subst (λ (earlier : List EarlierTree). CameBack s (undone_to later earlier).after) (sym is)
-      (came_back s tree (kept_before s tree taken) others refl refl later)
+      (came_back s tree (kept_before s tree taken what slot) others refl refl later)

@@ -13,7 +13,7 @@ use Rattle.session_edit.specs.PlainEdit.{PlainEdit}
 use Rattle.synth_session.specs.declared.answer.ClipRefusal.{ClipRefusal}
 use Rattle.synth_session.specs.declared.answer.Refusal.TheVariants as why
 use Rattle.synth_session.specs.EditCommands.{edit_refusal, edited_by, edited_session}
-use Rattle.synth_session.specs.KeyOutcome.{KeyOutcome, line_acceptance_outcome, program_acceptance_outcome, refusal_outcome}
+use Rattle.synth_session.specs.KeyOutcome.{KeyOutcome, edit_acceptance_outcome, line_acceptance_outcome, refusal_outcome}
 use Rattle.synth_session.specs.PlainSession.{PlainSession}
 use Rattle.synth_session.specs.TypedLine.{cursor_phrase}
 
@@ -47,8 +47,8 @@ abbrev pub cut_outcome : PlainSession → List ℕ → Edited → Option PlainFr
 cut_outcome s name (Edited.refused fault) fragment = refusal_outcome s (edit_refusal fault)
 cut_outcome s name (Edited.became tree stop taken what slot) None = refusal_outcome s why.NotHere
 cut_outcome s name (Edited.became tree stop taken what slot) (Some fragment) =
-    program_acceptance_outcome
-    (record (edited_session s tree stop taken) { clips = with_clip name (whole_fragment fragment) s.clips })
+    edit_acceptance_outcome s.tree what slot
+    (record (edited_session s tree stop taken what slot) { clips = with_clip name (whole_fragment fragment) s.clips })
 
 -- what `.cut` does: what stands at the cursor is taken out into the clip of this name, where the clips have room
 abbrev pub cut_to_clip : PlainSession → List ℕ → KeyOutcome

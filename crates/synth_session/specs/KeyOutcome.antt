@@ -3,11 +3,15 @@ use Rattle.std.specs.Prelude.{ℕ, []}
 use Rattle.session_words.specs.declared.message.Message.{Message}
 use Rattle.session_words.specs.declared.message.Notice.{Notice}
 use Rattle.session_words.specs.Message.{message_text}
+use Rattle.template_tree.specs.declared.change.What.{What}
+use Rattle.template_tree.specs.Programs.PlainTree.{PlainTree}
 use Rattle.synth_session.specs.declared.answer.Answer.{Answer}
 use Rattle.synth_session.specs.declared.answer.Refusal.{Refusal}
 use Rattle.synth_session.specs.CheckedPhrases.{phrase_count}
 use Rattle.synth_session.specs.PlainSession.{PlainSession}
+use Rattle.synth_session.specs.ProgramBill.{program_bill}
 use Rattle.synth_session.specs.ProgramCode.{code_length}
+use Rattle.synth_session.specs.ProgramDue.{program_due}
 use Rattle.synth_session.specs.RefusalText.{refusal_text}
 use Rattle.synth_session.specs.Window.{with_cursor_seen}
 
@@ -51,6 +55,15 @@ line_acceptance_outcome s = acceptance_outcome (record s { typed = [] })
 abbrev pub program_acceptance_outcome : PlainSession → KeyOutcome
 program_acceptance_outcome s =
     record (line_acceptance_outcome s) { checks = phrase_count s.tree; emits = code_length s.tree }
+
+-- what comes of a key by which the typed line is accepted, where this program was edited, by what was done in which
+-- slot: no more phrases are checked than are due, and no more instructions emitted than the bill of the edit says
+abbrev pub edit_acceptance_outcome : (before : PlainTree) → What → (slot : ℕ) → PlainSession → KeyOutcome
+edit_acceptance_outcome before what slot s =
+    record (line_acceptance_outcome s) {
+      checks = program_due what slot before s.tree;
+      emits = program_bill what slot before s.tree;
+    }
 
 -- what comes of a key by which the typed line is accepted, where this notice is told
 abbrev pub line_notice_outcome : PlainSession → Notice → KeyOutcome

@@ -10,6 +10,8 @@ pub mod RefusalText
 pub mod Window
 pub mod CheckedPhrases
 pub mod ProgramCode
+pub mod ProgramBill
+pub mod ProgramDue
 pub mod OpenedSession
 pub mod KeyOutcome
 -- ---- what a key asks, and what is replied

@@ -24,3 +24,5 @@ pub mod UncountedKey
 -- ---- a program that was edited, and one in which an edit was undone
 pub mod EditedProgram
 pub mod UndoneProgram
+-- ---- an edit that was prepared in what depends on a program
+pub mod PreparedProgram

@@ -18,6 +18,8 @@ use Rattle.plcs_store.specs.Configuration.{plain_configuration}
 use Rattle.plcs_store.specs.Fits.{Fits}
 use Rattle.plcs_store.specs.Resume.{IsKeptOf, kept_of}
 use Rattle.plcs_code.specs.Gen.{PlainCode}
+use Rattle.code_patch.specs.CodeEdit.{IsCodeTreeOf, PlainCodeTree}
+use Rattle.code_patch.specs.CodeForest.{told_code}
 use Rattle.back_steps.specs.EarlierConfigurations.{configurations_before}
 use Rattle.decl_table.specs.Agreement.{IsDeclsOf}
 use Rattle.clip_store.specs.PlainClips.{kept_pairs}
@@ -79,7 +81,7 @@ next_grid s = s.screens.next
 
 -- the code of the program as a session in the code has it
 abbrev pub code_view : {W : Type 0} → Session W → PlainCode
-code_view s = s.program.dependents.code
+code_view s = told_code s.program.dependents.code.items
 
 -- the steps that a session in the code makes: those by the code that it has, whatever that is, with its input
 abbrev pub own_steps : {W : Type 0} → Session W → Steps
@@ -90,14 +92,14 @@ own_steps s = code_steps (code_view s) s.input
 pub record DependOn {W : Type 0} (dependents : Dependents W) (tree : PlainTree) : Type 0 where
   pub layout : IsLayoutOf dependents.layout tree
   pub decls : IsDeclsOf dependents.decls tree.items
-  pub marks : dependents.marks ≡ Verdicts tree.items
+  pub marks : dependents.marks.verdicts ≡ Verdicts tree.items
 
 -- the program of a session in the code is a tree, what depends on it is that of this tree, and the lines that are held
 -- are the tree's, under its marks
 pub record Agrees {W : Type 0} (program : Program W) : Type 0 where
   pub tree : IsTree program.tree
   pub dependents : DependOn program.dependents program.tree
-  pub lines : HoldLinesOf (offences program.dependents.marks) (roomless program.tree.items) program.lines
+  pub lines : HoldLinesOf (offences program.dependents.marks.verdicts) (roomless program.tree.items) program.lines
 
 -- a condition of a session: the cursor stands at a visible stop, and the window begins at a line that a program can
 -- have
@@ -116,9 +118,14 @@ pub record IsSession {W : Type 0} (s : Session W) : Type 0 where
   pub placed : IsPlaced (plain_session s)
   pub seen : IsSeen (plain_session s)
 
+-- a code tree keeps the code of the program, and tells it
+pub record IsCodeFor (code : PlainCodeTree) (tree : PlainTree) : Type 0 where
+  pub keeps : IsCodeTreeOf code tree
+  pub tells : told_code code.items ≡ code_of tree
+
 -- the code of a program in a session in the code is that of its tree
 abbrev pub HasCode : {W : Type 0} → Program W → Type 0
-HasCode program = program.dependents.code ≡ code_of (roomless_tree program.tree)
+HasCode program = IsCodeFor program.dependents.code (roomless_tree program.tree)
 
 -- a condition of a session: the code that it has is that of its program
 abbrev pub HasProgramCode : {W : Type 0} → Session W → Type 0

@@ -8,7 +8,7 @@ use Rattle.edit_undo.specs.EarlierTree.{EarlierTree}
 use Rattle.session_edit.specs.ShownStop.{shown_at}
 use Rattle.synth_session.specs.declared.answer.Refusal.TheVariants as why
 use Rattle.synth_session.specs.EditCommands.{session_with}
-use Rattle.synth_session.specs.KeyOutcome.{KeyOutcome, program_acceptance_outcome, refusal_outcome}
+use Rattle.synth_session.specs.KeyOutcome.{KeyOutcome, edit_acceptance_outcome, refusal_outcome}
 use Rattle.synth_session.specs.PlainSession.{PlainSession}
 
 -- where the cursor goes for a stop of which the node is shown there: to the stop itself, where that is its own place,
@@ -31,7 +31,8 @@ session_back_at s latest others =
 -- what comes of going back to the latest of these earlier trees, if there is one
 abbrev pub undone_to : PlainSession → List EarlierTree → KeyOutcome
 undone_to s [] = refusal_outcome s why.NothingToUndo
-undone_to s (latest ∷ others) = program_acceptance_outcome (session_back_at s latest others)
+undone_to s (latest ∷ others) =
+    edit_acceptance_outcome s.tree latest.what latest.slot (session_back_at s latest others)
 
 -- what `.undo` does: the tree before the newest edit that is kept comes back, with as many slots drawn as are now, and
 -- with each comment that stands now elided as it is now. The undoing isn't kept itself

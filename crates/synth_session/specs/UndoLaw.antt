@@ -1,10 +1,11 @@
 -- The law of `.undo`: whatever was done since, it gives back the program before the latest edit that is kept, with its
 -- slots and so its marks and its code, and the cursor where it stood.
-use Rattle.std.specs.Prelude.{◌≡◌, ◌≤◌, List, ◌∷◌, Option}
+use Rattle.std.specs.Prelude.{◌≡◌, ◌≤◌, ℕ, List, ◌∷◌, Option}
 use Rattle.plcs_store.specs.declared.kept.Kept.{Kept}
 use Rattle.plcs_store.specs.declared.refusal.ResumeRefusal.{ResumeRefusal}
 use Rattle.plcs_store.specs.Configuration.{PlainConfiguration}
 use Rattle.plcs_store.specs.Resume.{MayResume}
+use Rattle.template_tree.specs.declared.change.What.{What}
 use Rattle.template_tree.specs.Edits.Edit.{whole}
 use Rattle.template_tree.specs.Laws.CheckLaws.{CheckAlike}
 use Rattle.template_tree.specs.Positions.Stop.{PlainStop}
@@ -32,12 +33,14 @@ pub record CameBack (before now : PlainSession) : Type 0 where
 -- was done since
 abbrev pub UndoComesBack : Type 0
 UndoComesBack =
-    (s later : PlainSession) (tree : PlainTree) (taken : Option PlainNode) (others : List EarlierTree)
-    → later.earlier ≡ kept_before s tree taken ∷ others → CameBack s (undo_outcome later).after
+    (s later : PlainSession) (tree : PlainTree) (taken : Option PlainNode) (what : What) (slot : ℕ)
+    (others : List EarlierTree)
+    → later.earlier ≡ kept_before s tree taken what slot ∷ others → CameBack s (undo_outcome later).after
 
 -- the tree before an edit is the latest that is kept, unless the edit took out more than may be held
 abbrev pub EditsAreKept : Type 0
 EditsAreKept =
-    (s : PlainSession) (tree : PlainTree) (stop : PlainStop) (taken : Option PlainNode)
+    (s : PlainSession) (tree : PlainTree) (stop : PlainStop) (taken : Option PlainNode) (what : What) (slot : ℕ)
     → edit_weight taken ≤ most_taken_slots
-    → (others : List EarlierTree) × ((edited_session s tree stop taken).earlier ≡ kept_before s tree taken ∷ others)
+    → (others : List EarlierTree)
+    × ((edited_session s tree stop taken what slot).earlier ≡ kept_before s tree taken what slot ∷ others)

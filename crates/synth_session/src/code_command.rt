@@ -4,10 +4,11 @@ ghost use Rattle.plcs_base.specs.Put.{PutsAll};
 ghost use Rattle.plcs_machine.specs.Fetched.{FetchesBy};
 ghost use Rattle.template_tree.specs.Positions.Stop.{IsStop, plain_stop};
 ghost use Rattle.template_tree.specs.Programs.PlainTree.{roomless_tree};
+ghost use Rattle.code_patch.specs.CodeForest.{told_code};
 ghost use Rattle.synth_session.specs.CodeCommand.{code_outcome};
-ghost use Rattle.synth_session.specs.ProgramCode.{code_at, code_length, code_of, code_text, instrs_in};
+ghost use Rattle.synth_session.specs.ProgramCode.{code_at, code_length, code_text, instrs_in};
 ghost use Rattle.synth_session.specs.Private.MemorylessKey.{HasOutcome};
-ghost use Rattle.synth_session.specs.SessionView.{Agrees, HasProgramCode, IsReadyForKey, IsSession, plain_session};
+ghost use Rattle.synth_session.specs.SessionView.{Agrees, HasCode, HasProgramCode, IsReadyForKey, IsSession, plain_session};
 
 use crate::answer::{Answer, Refusal};
 use crate::code_rows::put_code_line;
@@ -51,9 +52,9 @@ impl<W: Work> Session<W> {
 /// Where the code of the node at the stop begins, and how many instructions it has: none where the node has no code.
 pub(crate) fn code_span<W: Work>(program: &Program<W>, stop: &Stop) -> (u32, u32)
     requires agrees { Agrees program.now }
-    requires code { program.now.dependents.code ≡ code_of (roomless_tree program.now.tree) }
+    requires code { HasCode program.now }
     requires stop { IsStop (roomless_tree program.now.tree).items (plain_stop stop.now) }
-    ensures span { instrs_in program.now.dependents.code (result.0, result.1)
+    ensures span { instrs_in (told_code program.now.dependents.code.items) (result.0, result.1)
         ≡ code_at (roomless_tree program.now.tree) (plain_stop stop.now) }
     ensures count { result.1 ≡ length (code_at (roomless_tree program.now.tree) (plain_stop stop.now)) }
 {

@@ -4,7 +4,7 @@ ghost use Rattle.template_tree.specs.Programs.Limit.{most_slots};
 ghost use Rattle.template_tree.specs.Positions.Stop.{IsStop, plain_stop};
 ghost use Rattle.session_edit.specs.PlainEdit.{BringsWhatMayStand, plain_edit};
 ghost use Rattle.synth_session.specs.EditCommands.{edit_refusal, edited_by, session_with};
-ghost use Rattle.synth_session.specs.KeyOutcome.{program_acceptance_outcome};
+ghost use Rattle.synth_session.specs.KeyOutcome.{line_acceptance_outcome};
 ghost use Rattle.synth_session.specs.Private.EditedProgram.{CameFrom, noted_trees, program_before};
 ghost use Rattle.synth_session.specs.Private.KeptRun.{HasForgottenRun, HasKeptRun};
 ghost use Rattle.synth_session.specs.Private.MemorylessKey.{HasOutcome};
@@ -81,7 +81,7 @@ impl<W: Work> Session<W> {
         requires came { CameFrom self.old.edits (plain_session self.old).stop (plain_session self.old).tree applied }
         requires run { HasForgottenRun self.old (noted_trees (program_before applied (plain_session self.old).tree)
             self.old.edits (plain_session self.old).stop (plain_session self.old).tree applied) }
-        ensures { HasOutcome (program_acceptance_outcome
+        ensures { HasOutcome (line_acceptance_outcome
             (record (session_with (plain_session self.old) (plain_session self.old).tree (plain_stop applied.stop)) {
               earlier = noted_trees (program_before applied (plain_session self.old).tree) self.old.edits
                   (plain_session self.old).stop (plain_session self.old).tree applied;

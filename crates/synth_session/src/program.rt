@@ -5,37 +5,45 @@ ghost use Rattle.template_tree.specs.Edits.Elision.{with_toggled_at};
 ghost use Rattle.template_tree.specs.Edits.Receipt.{CanUndo, undone};
 ghost use Rattle.template_tree.specs.Edits.Reversal.{CanRevert};
 ghost use Rattle.template_tree.specs.Positions.Path.{node_at};
-ghost use Rattle.template_tree.specs.Programs.PlainTree.{roomless_node, roomless_tree};
+ghost use Rattle.template_tree.specs.Programs.PlainTree.{PlainTree, roomless_node, roomless_tree};
 ghost use Rattle.template_tree.specs.Positions.Stop.{IsStop, MayStand, plain_stop};
 ghost use Rattle.template_tree.specs.Programs.Tree.{IsTree};
 ghost use Rattle.template_tree.specs.Checks.Marks.{Verdicts};
+ghost use Rattle.code_patch.specs.Bill.{EmitsBill};
+ghost use Rattle.code_patch.specs.CodeEdit.{IsCodeTreeBefore};
 ghost use Rattle.decl_table.specs.Agreement.{IsDeclsOf};
 ghost use Rattle.tree_steps.specs.EditStep.{IsEditStep};
 ghost use Rattle.edit_undo.specs.EarlierTree.{RingFits, trees_before};
 ghost use Rattle.edit_undo.specs.declared.undone.UndoFault.{UndoFault};
+ghost use Rattle.unparse_layout.specs.LayoutEdit.{IsLayoutBefore};
 ghost use Rattle.session_edit.specs.Edited.{Edited, edited};
 ghost use Rattle.session_edit.specs.PlainEdit.{BringsWhatMayStand, plain_edit};
 ghost use Rattle.synth_session.specs.CheckedPhrases.{phrase_count};
 ghost use Rattle.synth_session.specs.CountedKey.{CountsProgram};
-ghost use Rattle.synth_session.specs.ProgramCode.{code_length, code_of};
-ghost use Rattle.synth_session.specs.SessionView.{Agrees, DependOn, HasCode, HasStop};
+ghost use Rattle.synth_session.specs.ProgramCode.{code_length};
+ghost use Rattle.synth_session.specs.SessionView.{Agrees, DependOn, HasCode, HasStop, IsCodeFor};
 ghost use Rattle.synth_session.specs.Private.Faults.{CountsEdit, IsEditFault};
+ghost use Rattle.synth_session.specs.Private.PreparedProgram.{AreChecksReady, CanBeCommitted, ChecksDue, CountsRenewal, DependBefore, IsCodeReady, IsLayoutReady, IsSameButCodeRoom, IsSameButRoom};
 ghost use Rattle.synth_session.specs.Private.UndoneProgram.{CountsUndo, GoesBackTo};
 ghost use Rattle.synth_session.specs.UndoCommand.{stop_or_comment};
 
-use decl_table::Decls;
+use code_patch::{CodeTree, Prepared, kept_code_ignores_room_and_elision, kept_code_is_told};
+use decl_table::{
+    DeclEdit, Decls, due_are_counted, put_in_place_agrees, tables_ignore_room_and_elision,
+};
 use edit_undo::{EditRing, UndoFault};
 use plcs_base::{OutOfMemory, Work};
-use plcs_code::{FlatCode, generate, programs_have_one_code};
+use plcs_code::programs_have_one_code;
 use screen_window::LineCache;
 use session_edit::{Applied, Edit, apply, edits_at_stops_are_steps, shown_stop};
 use std::alloc::Global;
 use template_tree::{
-    Path, Stop, Tree, TreeFault, checks_ignore_room_and_elision, room_is_not_shown,
+    Change, Path, Stop, Tree, TreeFault, checks_ignore_room_and_elision, edits_ignore_room,
+    room_is_not_shown,
 };
 use tree_steps::edits_follow;
-use type_marks::Marks;
-use unparse_layout::{Layout, layouts_ignore_room};
+use type_marks::{MarkEdit, Marks};
+use unparse_layout::{Layout, LayoutEdit, layouts_ignore_room};
 
 /// The program that is edited, with all that is computed from it, and the lines of it that were laid for the window.
 #[derive(Drop)]
@@ -51,7 +59,7 @@ pub struct Dependents<W> {
     pub layout: Layout<W>,
     pub decls: Decls,
     pub marks: Marks<W>,
-    pub code: FlatCode<W>,
+    pub code: CodeTree<W>,
 }
 
 impl<W: Work> Program<W> {
@@ -73,8 +81,9 @@ impl<W: Work> Program<W> {
         })
     }
 
-    /// Edits the program at the stop: its lines are forgotten, the tree is edited, then all memory is taken that
-    /// what depends on it needs, and then that is put in place. Where memory runs out the tree is given back.
+    /// Edits the program at the stop: its lines are forgotten, the tree is edited, then the edit is prepared in all
+    /// that depends on it, which takes all memory that it needs, and then it is put in place there. Where memory runs
+    /// out the tree is given back.
     pub(crate) fn change(
         &mut self,
         alloc: Global,
@@ -83,10 +92,11 @@ impl<W: Work> Program<W> {
         work: &mut W,
     ) -> Result<Applied, TreeFault>
         requires agrees { Agrees self.old }
+        requires code { HasCode self.old }
         requires stop { IsStop (roomless_tree self.old.tree).items (plain_stop at.now) }
         requires edit { BringsWhatMayStand edit }
         ensures agrees { Agrees self.new }
-        ensures code { HasCode self.old → HasCode self.new }
+        ensures code { HasCode self.new }
         ensures became { IfOk result (λ changed.
             edited (roomless_tree self.old.tree) (plain_stop at.now) (plain_edit edit)
             ≡ Edited.became (roomless_tree self.new.tree) (plain_stop changed.stop)
@@ -101,54 +111,49 @@ impl<W: Work> Program<W> {
         ensures refused { IfErr result
             (IsEditFault (edited (roomless_tree self.old.tree) (plain_stop at.now) (plain_edit edit))) }
         ensures same { IfErr result (λ _. roomless_tree self.new.tree ≡ roomless_tree self.old.tree) }
-        ensures counts { CountsEdit (edited (roomless_tree self.old.tree) (plain_stop at.now) (plain_edit edit))
+        ensures counts { CountsEdit (roomless_tree self.old.tree)
+            (edited (roomless_tree self.old.tree) (plain_stop at.now) (plain_edit edit))
             (W.counts work.old) (W.counts work.new) }
     {
         room_is_not_shown();
         edits_follow();
         edits_at_stops_are_steps();
+        edits_ignore_room();
+        kept_code_ignores_room_and_elision();
+        due_are_counted();
         self.lines.forget();
         let applied = apply(alloc, &mut self.tree, at, edit)?;
-        match self.renew(alloc, work) {
+        let change = applied.receipt.change();
+        match self.renew(alloc, &change, work) {
             Ok(()) => Ok(applied),
             Err(OutOfMemory) => {
                 layouts_ignore_room();
                 checks_ignore_room_and_elision();
+                tables_ignore_room_and_elision();
                 undo(&mut self.tree, applied);
                 Err(TreeFault::OutOfMemory)
             }
         }
     }
 
-    /// Puts what depends on the edited tree in place, once all memory is taken that it needs. Where memory runs
-    /// out, what is in place stays.
-    fn renew(&mut self, alloc: Global, work: &mut W) -> Result<(), OutOfMemory>
+    /// Puts what depends on the tree in place, which was edited by this change, once all memory is taken that it needs.
+    /// Where memory runs out, what is in place stays, apart from room.
+    fn renew(&mut self, alloc: Global, change: &Change, work: &mut W) -> Result<(), OutOfMemory>
         requires tree { IsTree self.old.tree }
+        requires before { (before : PlainTree) × DependBefore self.old.dependents before self.old.tree change.now }
         ensures depend { IfOk result (λ _. DependOn self.new.dependents self.old.tree) }
         ensures tree { self.new.tree ≡ self.old.tree }
         ensures lines { self.new.lines ≡ self.old.lines }
-        ensures same { IfErr result (λ _. self.new.dependents ≡ self.old.dependents) }
+        ensures same { IfErr result (λ _. IsSameButRoom self.old.dependents self.new.dependents) }
         ensures code { IfOk result (λ _. HasCode self.new) }
-        ensures counts { CountsProgram
-            (phrase_count (roomless_tree self.old.tree)) (code_length (roomless_tree self.old.tree))
+        ensures counts { CountsRenewal self.old.dependents self.old.tree change.now
             (W.counts work.old) (W.counts work.new) }
     {
-        let dependents = Dependents::of(alloc, &self.tree, work)?;
-        self.depend_on(dependents);
-        Ok(())
+        self.dependents.renew(alloc, &self.tree, change, work)
     }
 
-    /// Puts what depends on the edited tree in the place of what did before.
-    fn depend_on(&mut self, dependents: Dependents<W>)
-        ensures dependents { self.new.dependents ≡ dependents }
-        ensures tree { self.new.tree ≡ self.old.tree }
-        ensures lines { self.new.lines ≡ self.old.lines }
-    {
-        self.dependents = dependents;
-    }
-
-    /// Undoes the newest of the edits in the program: the tree before it comes back, then all memory is taken that
-    /// what depends on it needs, and then that is put in place. Where memory runs out, tree and edits are given back.
+    /// Undoes the newest of the edits in the program: the tree before it comes back, then that edit is prepared in all
+    /// that depends on it, and then it is put in place there. Where memory runs out, tree and edits are given back.
     /// Tells where the cursor goes.
     pub(crate) fn undo(
         &mut self,
@@ -157,10 +162,11 @@ impl<W: Work> Program<W> {
         work: &mut W,
     ) -> Result<Stop, UndoFault>
         requires agrees { Agrees self.old }
+        requires code { HasCode self.old }
         requires fits { RingFits edits.old (roomless_tree self.old.tree) }
         requires stops { All HasStop (trees_before edits.old (roomless_tree self.old.tree)) }
         ensures agrees { Agrees self.new }
-        ensures code { HasCode self.old → HasCode self.new }
+        ensures code { HasCode self.new }
         ensures undone { IfOk result (λ stop. GoesBackTo edits.old (roomless_tree self.old.tree)
             edits.new (roomless_tree self.new.tree) (plain_stop stop)) }
         ensures stop { IfOk result (λ stop. IsStop (roomless_tree self.new.tree).items (plain_stop stop)) }
@@ -172,13 +178,17 @@ impl<W: Work> Program<W> {
         ensures counts { CountsUndo edits.old (roomless_tree self.old.tree) (W.counts work.old) (W.counts work.new) }
     {
         room_is_not_shown();
+        edits_ignore_room();
+        kept_code_ignores_room_and_elision();
+        due_are_counted();
         let undone = edits.undo(&mut self.tree)?;
         self.lines.forget();
-        match self.renew(alloc, work) {
+        match self.renew(alloc, &undone.change, work) {
             Ok(()) => Ok(stop_or_comment(&self.tree, undone.stop)),
             Err(OutOfMemory) => {
                 layouts_ignore_room();
                 checks_ignore_room_and_elision();
+                tables_ignore_room_and_elision();
                 edits.put_back(&mut self.tree, undone);
                 Err(UndoFault::OutOfMemory)
             }
@@ -195,6 +205,8 @@ impl<W: Work> Program<W> {
     {
         room_is_not_shown();
         checks_ignore_room_and_elision();
+        tables_ignore_room_and_elision();
+        kept_code_ignores_room_and_elision();
         programs_have_one_code();
         self.lines.forget();
         // Whether it is hidden now, no key tells.
@@ -236,25 +248,142 @@ fn stop_or_comment(tree: &Tree, stop: Stop) -> Stop
 }
 
 impl<W: Work> Dependents<W> {
-    /// All that depends on the tree, made from it. The tree may have been edited: nothing of it is in
-    /// place before all memory was taken.
+    /// All that depends on the tree, made from it.
     fn of(alloc: Global, tree: &Tree, work: &mut W) -> Result<Dependents<W>, OutOfMemory>
         requires tree { IsTree tree.now }
         ensures depend { IfOk result (λ dependents. DependOn dependents tree.now) }
-        ensures code { IfOk result (λ dependents. dependents.code ≡ code_of (roomless_tree tree.now)) }
+        ensures code { IfOk result (λ dependents. IsCodeFor dependents.code (roomless_tree tree.now)) }
         ensures counts { CountsProgram (phrase_count (roomless_tree tree.now)) (code_length (roomless_tree tree.now))
             (W.counts work.old) (W.counts work.new) }
     {
+        kept_code_is_told();
+        kept_code_ignores_room_and_elision();
         programs_have_one_code();
         let layout = Layout::new(alloc, tree)?;
         let (decls, marks) = checked(alloc, tree, work)?;
-        let code = generate(alloc, tree, &marks, &decls, work)?;
+        let code = CodeTree::new(alloc, tree, &marks, &decls, work)?;
         Ok(Dependents {
             layout,
             decls,
             marks,
             code,
         })
+    }
+
+    /// Puts in place what comes of the edit of the tree that made this change, once it is prepared in each part, which
+    /// takes all memory that it needs: the phrases that are due are checked, and the code is made that it touches.
+    /// Where memory runs out, what is in place stays, apart from room.
+    fn renew(
+        &mut self,
+        alloc: Global,
+        tree: &Tree,
+        change: &Change,
+        work: &mut W,
+    ) -> Result<(), OutOfMemory>
+        requires tree { IsTree tree.now }
+        requires before { (before : PlainTree) × DependBefore self.old before tree.now change.now }
+        ensures depend { IfOk result (λ _. DependOn self.new tree.now) }
+        ensures code { IfOk result (λ _. IsCodeFor self.new.code (roomless_tree tree.now)) }
+        ensures same { IfErr result (λ _. IsSameButRoom self.old self.new) }
+        ensures counts { CountsRenewal self.old tree.now change.now (W.counts work.old) (W.counts work.new) }
+    {
+        let (decls, marks) = self.prepare_checks(alloc, tree, change, work)?;
+        let (layout, code) = self.prepare_layout_and_code(
+            alloc, tree, change, &decls, &marks, work,
+        )?;
+        self.commit(layout, decls, marks, code);
+        Ok(())
+    }
+
+    /// Prepares the edit of the tree that made this change in the table of declarations and in the verdicts: the
+    /// phrases that are due are checked.
+    fn prepare_checks(
+        &mut self,
+        alloc: Global,
+        tree: &Tree,
+        change: &Change,
+        work: &mut W,
+    ) -> Result<(DeclEdit, MarkEdit<W>), OutOfMemory>
+        requires tree { IsTree tree.now }
+        requires before { (before : PlainTree) × DependBefore self.old before tree.now change.now }
+        ensures same { IsSameButRoom self.old self.new }
+        ensures checks { IfOk result (λ edits. AreChecksReady edits.0 edits.1 self.new.decls self.new.marks tree.now) }
+        ensures counts { ChecksDue self.old tree.now change.now (W.counts work.old) (W.counts work.new) }
+    {
+        tables_ignore_room_and_elision();
+        due_are_counted();
+        let decls = self.decls.prepare(alloc, tree, change)?;
+        let marks = self
+            .marks
+            .prepare(alloc, tree, &self.decls, &decls, change, work)?;
+        Ok((decls, marks))
+    }
+
+    /// Prepares the edit of the tree that made this change in the layout and in the code, once it is prepared in the
+    /// table of declarations and in the verdicts. What is in place stays, apart from room for code.
+    fn prepare_layout_and_code(
+        &mut self,
+        alloc: Global,
+        tree: &Tree,
+        change: &Change,
+        decls: &DeclEdit,
+        marks: &MarkEdit<W>,
+        work: &mut W,
+    ) -> Result<(LayoutEdit, Prepared<W>), OutOfMemory>
+        requires tree { IsTree tree.now }
+        requires checks { AreChecksReady decls.now marks.now self.old.decls self.old.marks tree.now }
+        requires layout_before { IsLayoutBefore self.old.layout tree.now change.now }
+        requires code_before { IsCodeTreeBefore self.old.code tree.now change.now }
+        ensures same { IsSameButCodeRoom self.old self.new }
+        ensures layout { IfOk result (λ edits. IsLayoutReady edits.0 self.new.layout tree.now) }
+        ensures code { IfOk result (λ edits. IsCodeReady edits.1 self.new.code tree.now) }
+        ensures counts { EmitsBill self.old.code tree.now change.now (W.counts work.old) (W.counts work.new) }
+    {
+        let code = self.prepare_code(alloc, tree, change, decls, marks, work)?;
+        let layout = self.layout.prepare(alloc, tree, change)?;
+        Ok((layout, code))
+    }
+
+    /// Prepares the edit of the tree that made this change in the code, by the marks and the effective items after it,
+    /// for which it is prepared in the table of declarations and in the verdicts. What is in place stays, apart from
+    /// room for code.
+    fn prepare_code(
+        &mut self,
+        alloc: Global,
+        tree: &Tree,
+        change: &Change,
+        decls: &DeclEdit,
+        marks: &MarkEdit<W>,
+        work: &mut W,
+    ) -> Result<Prepared<W>, OutOfMemory>
+        requires tree { IsTree tree.now }
+        requires checks { AreChecksReady decls.now marks.now self.old.decls self.old.marks tree.now }
+        requires before { IsCodeTreeBefore self.old.code tree.now change.now }
+        ensures same { IsSameButCodeRoom self.old self.new }
+        ensures code { IfOk result (λ code. IsCodeReady code self.new.code tree.now) }
+        ensures counts { EmitsBill self.old.code tree.now change.now (W.counts work.old) (W.counts work.new) }
+    {
+        kept_code_ignores_room_and_elision();
+        programs_have_one_code();
+        let new_marks = self.marks.after(marks);
+        let new_items = self.decls.after(decls);
+        self.code
+            .prepare(alloc, tree, &new_marks, &new_items, change, work)
+    }
+
+    /// Puts an edit in place that was prepared in each part. It takes no memory.
+    fn commit(&mut self, layout: LayoutEdit, decls: DeclEdit, marks: MarkEdit<W>, code: Prepared<W>)
+        requires { (tree : PlainTree) × CanBeCommitted layout decls marks code self.old tree }
+        ensures depend { (tree : PlainTree) → CanBeCommitted layout decls marks code self.old tree
+            → DependOn self.new tree }
+        ensures code { (tree : PlainTree) → CanBeCommitted layout decls marks code self.old tree
+            → IsCodeFor self.new.code (roomless_tree tree) }
+    {
+        put_in_place_agrees();
+        self.layout.commit(layout);
+        self.decls.commit(decls);
+        self.marks.commit(marks);
+        self.code.commit(code);
     }
 }
 
@@ -266,7 +395,7 @@ fn checked<W: Work>(
 ) -> Result<(Decls, Marks<W>), OutOfMemory>
     requires { IsTree tree.now }
     ensures decls { IfOk result (λ pair. IsDeclsOf pair.0 tree.now.items) }
-    ensures marks { IfOk result (λ pair. pair.1 ≡ Verdicts tree.now.items) }
+    ensures marks { IfOk result (λ pair. pair.1.verdicts ≡ Verdicts tree.now.items) }
     ensures counts { ChecksAtMost (phrase_count (roomless_tree tree.now))
         (W.counts work.old) (W.counts work.new) }
 {

@@ -3,7 +3,7 @@ ghost use Rattle.std.specs.Prelude.{◌*◌, ◌≤◌, true};
 ghost use Rattle.template_tree.specs.Programs.Limit.{most_slots};
 ghost use Rattle.template_tree.specs.Positions.Stop.{IsStop, plain_stop};
 ghost use Rattle.synth_session.specs.EditCommands.{session_with};
-ghost use Rattle.synth_session.specs.KeyOutcome.{program_acceptance_outcome};
+ghost use Rattle.synth_session.specs.KeyOutcome.{line_acceptance_outcome};
 ghost use Rattle.synth_session.specs.Private.KeptRun.{HasForgottenRun};
 ghost use Rattle.synth_session.specs.Private.MemorylessKey.{HasOutcome};
 ghost use Rattle.synth_session.specs.SessionView.{Agrees, CountsOutcome, Does, HasFittingEdits, HasProgramCode, IsReadyForKey, plain_session};
@@ -48,7 +48,7 @@ impl<W: Work> Session<W> {
         requires run { HasForgottenRun self.old (plain_session self.old).earlier }
         requires edits { HasFittingEdits self.old }
         ensures { HasOutcome
-            (program_acceptance_outcome
+            (line_acceptance_outcome
             (session_with (plain_session self.old) (plain_session self.old).tree (plain_stop stop)))
             self.old self.new result }
     {

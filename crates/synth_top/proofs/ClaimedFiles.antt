@@ -10,7 +10,7 @@ use Rattle.synth_session.specs.KeyRequest.{request}
 use Rattle.synth_session.specs.Press.{press}
 use Rattle.synth_session.specs.KeyOutcome.{KeyOutcome}
 use Rattle.synth_session.specs.Tick.{AreMade}
-use Rattle.synth_top.specs.Turn.{Bill, HasReply, HaveReplies, IsToldAs, LeftAtLast, MayBeLeft, PressedKey, EditorState, Shot, Turn, answered, bill, bill_of, bills, both_bills, makes_steps, running_turn, state_after_keys, steps_of, still_turn, asked, ends, failure, files_after, grids, screens_of, shots, turn, turn_with}
+use Rattle.synth_top.specs.Turn.{KeyBill, HasReply, HaveReplies, IsToldAs, LeftAtLast, MayBeLeft, PressedKey, EditorState, Shot, Turn, answered, bill, bill_of, bills, both_bills, makes_steps, running_turn, state_after_keys, steps_of, still_turn, asked, ends, failure, files_after, grids, screens_of, shots, turn, turn_with}
 
 -- ---- maps
 
@@ -197,8 +197,8 @@ same_ends s t (p ∷ ps) less =
 pub same_bills : (s t : EditorState) (ps : List PressedKey) → ClaimsNoMore s t → bills s ps ≡ bills t ps
 same_bills s t [] less = refl
 same_bills s t (p ∷ ps) less =
-    ap (λ (b : Bill). both_bills b (bills (turn s p).after ps)) (bill_same s t p less)
-    ∙ ap (λ (b : Bill). both_bills (bill t p) b) (same_bills (turn s p).after (turn t p).after ps (turn_less s t p less))
+    ap (λ (b : KeyBill). both_bills b (bills (turn s p).after ps)) (bill_same s t p less)
+    ∙ ap (λ (b : KeyBill). both_bills (bill t p) b) (same_bills (turn s p).after (turn t p).after ps (turn_less s t p less))
 
 pub replies_less : (s t : EditorState) (ps : List PressedKey) → ClaimsNoMore s t → HaveReplies t ps → HaveReplies s ps
 replies_less s t [] less can = tt

@@ -8,7 +8,7 @@ use Rattle.synth_session.specs.CountedKey.{CountsPressed, CountsPressedAtMost, C
 use Rattle.synth_session.specs.PlainSession.{PlainSession}
 use Rattle.synth_session.specs.SessionScreen.{grid, screen_fetches}
 use Rattle.synth_top.specs.Counted.{CountsFor, FetchesFor, all_fetched, all_window_rows}
-use Rattle.synth_top.specs.Turn.{Bill, Shot, no_bill, shot_after}
+use Rattle.synth_top.specs.Turn.{KeyBill, Shot, no_bill, shot_after}
 
 -- the screen of a session has as many rows as the session says
 rows_of_grid : (s : PlainSession) → (grid s).rows ≡ s.size.rows
@@ -39,7 +39,7 @@ counts_nothing a = record {
 }
 
 -- a bill may be larger
-pub counts_within : (few many : Bill) (made : List Shot) (due : Option ℕ) (a b : PlainCounts) → few.checks ≤ many.checks → few.emits ≤ many.emits
+pub counts_within : (few many : KeyBill) (made : List Shot) (due : Option ℕ) (a b : PlainCounts) → few.checks ≤ many.checks → few.emits ≤ many.emits
     → CountsFor few made due a b → CountsFor many made due a b
 counts_within few many made due a b checks emits counts = record {
   emitted = omega (arith, emits, counts.emitted);
@@ -52,7 +52,7 @@ counts_within few many made due a b checks emits counts = record {
 }
 
 -- a program came to be another, and no shot was shown
-pub counts_program : (bill : Bill) (a b : PlainCounts) → CountsProgram bill.checks bill.emits a b → CountsFor bill [] None a b
+pub counts_program : (bill : KeyBill) (a b : PlainCounts) → CountsProgram bill.checks bill.emits a b → CountsFor bill [] None a b
 counts_program bill a b program = record {
   emitted = program.emitted;
   emitted_later = program.emitted_later;
@@ -97,7 +97,7 @@ fetches_both xs ys (Some number) a b c first rest =
     (omega (arith, first, rest.0, fetched-append xs ys), omega (arith, first, rest.1))
 
 -- some shots before others, under a bill for both
-pub counts_both : (one other both : Bill) (xs ys : List Shot) (due : Option ℕ) (a b c : PlainCounts) → one.checks + other.checks ≤ both.checks
+pub counts_both : (one other both : KeyBill) (xs ys : List Shot) (due : Option ℕ) (a b c : PlainCounts) → one.checks + other.checks ≤ both.checks
     → one.emits + other.emits ≤ both.emits → CountsFor one xs None a b → CountsFor other ys due b c
     → CountsFor both (xs ++ ys) (due_after xs due) a c
 counts_both one other both xs ys due a b c checks emits first rest = record {
@@ -111,7 +111,7 @@ counts_both one other both xs ys due a b c checks emits first rest = record {
 }
 
 -- some that were shown after nothing was
-pub counts_after_none : (one other both : Bill) (ys : List Shot) (due : Option ℕ) (a b c : PlainCounts) → one.checks + other.checks ≤ both.checks
+pub counts_after_none : (one other both : KeyBill) (ys : List Shot) (due : Option ℕ) (a b c : PlainCounts) → one.checks + other.checks ≤ both.checks
     → one.emits + other.emits ≤ both.emits → CountsFor one [] None a b → CountsFor other ys due b c → CountsFor both ys due a c
 counts_after_none one other both ys due a b c checks emits first rest =
     subst (λ (d : Option ℕ). CountsFor both ys d a c) (due_nothing due) (counts_both one other both [] ys due a b c checks emits first rest)
@@ -124,7 +124,7 @@ pub record CountsPress (fetches : ℕ) (made whole : List Shot) : Type 0 where
   pub fetched : all_fetched whole ≡ fetches + all_fetched made
 
 -- all that was due in the turn was made
-pub counts_turn : (bill : Bill) (fetches : ℕ) (made whole : List Shot) (a b c : PlainCounts) → CountsPress fetches made whole
+pub counts_turn : (bill : KeyBill) (fetches : ℕ) (made whole : List Shot) (a b c : PlainCounts) → CountsPress fetches made whole
     → CountsPressed bill.checks bill.emits fetches fetches a b → CountsFor no_bill made None b c → CountsFor bill whole None a c
 counts_turn bill fetches made whole a b c turn press counts = record {
   emitted = omega (arith, press.emitted, counts.emitted);
@@ -137,7 +137,7 @@ counts_turn bill fetches made whole a b c turn press counts = record {
 }
 
 -- memory ran out in the turn after the shots that were made
-pub counts_turn_left : (bill : Bill) (fetches number due : ℕ) (made whole : List Shot) (a b c : PlainCounts)
+pub counts_turn_left : (bill : KeyBill) (fetches number due : ℕ) (made whole : List Shot) (a b c : PlainCounts)
     → all_window_rows whole ≡ all_window_rows made → all_fetched whole ≤ fetches + all_fetched made → fetches + number ≤ due
     → CountsPressed bill.checks bill.emits fetches fetches a b → CountsFor no_bill made (Some number) b c → CountsFor bill whole (Some due) a c
 counts_turn_left bill fetches number due made whole a b c rows fetched within press counts = record {
@@ -154,7 +154,7 @@ counts_turn_left bill fetches number due made whole a b c rows fetched within pr
 }
 
 -- shots were shown, and the key after them wanted memory
-pub counts_wanted : (one other both : Bill) (fetches due : ℕ) (xs : List Shot) (a b c : PlainCounts) → one.checks + other.checks ≤ both.checks
+pub counts_wanted : (one other both : KeyBill) (fetches due : ℕ) (xs : List Shot) (a b c : PlainCounts) → one.checks + other.checks ≤ both.checks
     → one.emits + other.emits ≤ both.emits → all_fetched xs + fetches ≤ due → CountsFor one xs None a b
     → CountsPressedAtMost other.checks other.emits fetches b c → CountsFor both xs (Some due) a c
 counts_wanted one other both fetches due xs a b c checks emits within counts press = record {

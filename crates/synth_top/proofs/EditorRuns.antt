@@ -23,7 +23,7 @@ use Rattle.synth_top.specs.Keys.{Feeds, IsFront, IsHeld, completed, keys, listed
 use Rattle.synth_top.specs.Private.Pressing.{AllShown, KeysCut, KeysQuit, KeysShown, KeysStepWanted, KeysWanted, Moment, Pressed, UpToLast, ended_as, state_at}
 use Rattle.synth_top.specs.Private.EditorRuns.{EditorRuns}
 use Rattle.synth_top.specs.WholeRun.{AtLastKey, Course, EndRead, NoKeyComes, KeyWanted, LimitTaken, PressedAll, ReadCut, ReadsInTurn, ScreenCut, StepWanted, Stopped, Told, all_shots, fetches_due, painted_over, run_bill, state_after, written}
-use Rattle.synth_top.specs.Turn.{Bill, PressedKey, EditorState, bill, bills, state_after_keys, ends, grids, keys_pressed, pressed_whole, shot_of, shots, steps_of, turn}
+use Rattle.synth_top.specs.Turn.{KeyBill, PressedKey, EditorState, bill, bills, state_after_keys, ends, grids, keys_pressed, pressed_whole, shot_of, shots, steps_of, turn}
 use Rattle.synth_top.specs.Options.{PlainOptions}
 use Rattle.synth_top.proofs.CountsInTurn.{counts_wanted, due_after, fetched-append}
 use Rattle.synth_top.proofs.Courses.{InTurn, Opened, all_counts, all_course, all_going, all_runs, all_runs_counting, all_takes, at_last, work_after, reply_after, counts_all, last_all, last_course, last_ends, last_runs, last_session, one_byte, told_at, whole_at}
@@ -311,7 +311,7 @@ module _ (number : ℕ) (options : PlainOptions) (first : EditorState) (before :
       wanted_stop = inr (inr (omega arith, refl, inl key_wanted))
 
       -- its bill after all keys pressed, and what it counted under it
-      abbrev bill_then : Bill
+      abbrev bill_then : KeyBill
       bill_then = bill (state_after_keys first (so.pressed ++ next.pressed)) (pressed_whole next.wanted next.reply)
 
       wanted_work : CountsWanted (press (state_after_keys first (so.pressed ++ next.pressed)).session next.wanted next.reply) next.counted now.counts

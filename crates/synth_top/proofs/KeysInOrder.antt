@@ -23,7 +23,7 @@ use Rattle.synth_top.specs.declared.status.Status.TheVariants.{Done, ReadFault, 
 use Rattle.synth_top.specs.Private.Pressing.{Moment, AllShown, UpToLast, KeysShown, KeysQuit, KeysCut, KeysStepWanted, KeysWanted, Pressed, last_shown, state_at}
 use Rattle.synth_top.specs.Counted.{CountsFor, all_fetched}
 use Rattle.synth_top.specs.WholeRun.{painted_over}
-use Rattle.synth_top.specs.Turn.{Bill, HasReply, HaveReplies, IsToldAs, LeftAtLast, PressedKey, Shot, bills, state_after_keys, ends, failures, grids, keys_pressed, pressed_whole, shots}
+use Rattle.synth_top.specs.Turn.{KeyBill, HasReply, HaveReplies, IsToldAs, LeftAtLast, PressedKey, Shot, bills, state_after_keys, ends, failures, grids, keys_pressed, pressed_whole, shots}
 use Rattle.synth_top.proofs.ClaimedFiles.{ClaimsNoMore, after_less, left_less, replies_less, same_bills, same_ends, same_grids, same_shots, told_through, turn_reply_less}
 use Rattle.synth_top.proofs.CountsInTurn.{counts_both, due_after, fetched-append}
 use Rattle.synth_top.proofs.TurnsInOrder.{AllCameToEnd-append, LeftAtLast-append, after-append, checks-append, emits-append, ends-going, grids-append, HaveReplies-append, failures-append, painted_over-append, last_shown-append, shots-append}
@@ -52,12 +52,12 @@ module _ (a b : Moment) (ps : List PressedKey) (shown : AllShown a b ps) where
   checks_more : (qs : List PressedKey) → (bills (state_at a) (ps ++ qs)).checks ≡ (bills (state_at a) ps).checks + (bills (state_at b) qs).checks
   checks_more qs =
       checks-append (state_at a) ps qs
-      ∙ ap (λ (bill : Bill). (bills (state_at a) ps).checks + bill.checks) (same_bills (state_after_keys (state_at a) ps) (state_at b) qs after_claims_less)
+      ∙ ap (λ (bill : KeyBill). (bills (state_at a) ps).checks + bill.checks) (same_bills (state_after_keys (state_at a) ps) (state_at b) qs after_claims_less)
 
   emits_more : (qs : List PressedKey) → (bills (state_at a) (ps ++ qs)).emits ≡ (bills (state_at a) ps).emits + (bills (state_at b) qs).emits
   emits_more qs =
       emits-append (state_at a) ps qs
-      ∙ ap (λ (bill : Bill). (bills (state_at a) ps).emits + bill.emits) (same_bills (state_after_keys (state_at a) ps) (state_at b) qs after_claims_less)
+      ∙ ap (λ (bill : KeyBill). (bills (state_at a) ps).emits + bill.emits) (same_bills (state_after_keys (state_at a) ps) (state_at b) qs after_claims_less)
 
   -- the screens of others
   grids_more : (qs : List PressedKey) → grids (state_at a) (ps ++ qs) ≡ grids (state_at a) ps ++ grids (state_at b) qs

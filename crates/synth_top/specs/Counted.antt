@@ -3,7 +3,7 @@ use Rattle.std.specs.Prelude.{◌≡◌, ℕ, ◌+◌, ◌≤◌, List, [], ◌�
 use Rattle.plcs_base.specs.Count.{raised_by}
 use Rattle.plcs_base.specs.PlainCounts.{PlainCounts}
 use Rattle.screen_window.specs.Screen.{window_rows}
-use Rattle.synth_top.specs.Turn.{Bill, Shot}
+use Rattle.synth_top.specs.Turn.{KeyBill, Shot}
 
 -- of what is counted for some shots: how many rows their windows have together, and so how many lines are laid at most
 abbrev pub all_window_rows : List Shot → ℕ
@@ -24,7 +24,7 @@ FetchesFor number (Some due) before now = (raised_by number before ≤ now) × (
 -- emitted than the bill says, just as many instructions are fetched as for the shots, and at most as many lines are
 -- laid as their windows have rows. Where memory ran out, it is told how many instructions were due in all, and then at
 -- most these are fetched
-pub record CountsFor (bill : Bill) (made : List Shot) (due : Option ℕ) (before now : PlainCounts) : Type 0 where
+pub record CountsFor (bill : KeyBill) (made : List Shot) (due : Option ℕ) (before now : PlainCounts) : Type 0 where
   pub emitted : now.emitted ≤ before.emitted + bill.emits
   pub emitted_later : before.emitted ≤ now.emitted
   pub checked : now.checked ≤ before.checked + bill.checks

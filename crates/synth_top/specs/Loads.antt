@@ -14,7 +14,7 @@ use Rattle.synth_session.specs.PlainSession.{PlainSession}
 use Rattle.synth_session.specs.ProgramCode.{code_length}
 use Rattle.synth_session.specs.RefusalText.{refusal_text}
 use Rattle.synth_top.specs.Options.{PlainOptions}
-use Rattle.synth_top.specs.Turn.{Bill, EditorState, failure}
+use Rattle.synth_top.specs.Turn.{KeyBill, EditorState, failure}
 
 -- ---- what the files did
 
@@ -76,7 +76,7 @@ opening_tree loads = tree_at_first (loaded_program loads.program)
 
 -- the bill of the loads before the first screen, once a session is opened over what they gave: each phrase of its
 -- program is checked once at most, and each instruction of its code emitted once at most
-abbrev pub opening_bill : PlainFirstLoads → Bill
+abbrev pub opening_bill : PlainFirstLoads → KeyBill
 opening_bill loads = record { checks = phrase_count (opening_tree loads); emits = code_length (opening_tree loads) }
 
 -- why the file with the program was refused when it was loaded, if it was

@@ -21,7 +21,7 @@ use Rattle.synth_top.specs.declared.status.Status.TheVariants.{Done, ReadFault, 
 use Rattle.synth_top.specs.Keys.{IsFront, keys}
 use Rattle.synth_top.specs.MadeText.{made_text}
 use Rattle.synth_top.specs.Summary.{summary}
-use Rattle.synth_top.specs.Turn.{AllCameToEnd, Bill, EditorState, HaveReplies, PressedKey, bills, both_bills, keys_pressed, makes_steps, state_after_keys, steps_of, turn}
+use Rattle.synth_top.specs.Turn.{AllCameToEnd, KeyBill, EditorState, HaveReplies, PressedKey, bills, both_bills, keys_pressed, makes_steps, state_after_keys, steps_of, turn}
 
 -- ---- what is fetched where no screen is shown
 
@@ -60,7 +60,7 @@ made_from = record {
 }
 
 -- the bill of a making: that of its new program, and those of the keys pressed
-abbrev pub making_bill : List PressedKey → Bill
+abbrev pub making_bill : List PressedKey → KeyBill
 making_bill pressed =
     both_bills (record { checks = phrase_count new_tree; emits = code_length new_tree }) (bills made_from pressed)
 

@@ -189,24 +189,24 @@ abbrev pub pressed_session : EditorState → PressedKey → PlainSession
 pressed_session state pressed = (press state.session pressed.key pressed.reply).after
 
 -- a bill, as the turn of a key has it: how many phrases are checked at most, and how many instructions emitted
-pub record Bill : Type 0 where
+pub record KeyBill : Type 0 where
   pub checks : ℕ
   pub emits : ℕ
 
 -- the bill where nothing is to be checked or emitted
-abbrev pub no_bill : Bill
+abbrev pub no_bill : KeyBill
 no_bill = record { checks = 0; emits = 0 }
 
 -- two bills together, as those of the turns of two keys
-abbrev pub both_bills : Bill → Bill → Bill
+abbrev pub both_bills : KeyBill → KeyBill → KeyBill
 both_bills one other = record { checks = one.checks + other.checks; emits = one.emits + other.emits }
 
 -- the bill of a key with this outcome
-abbrev pub bill_of : KeyOutcome → Bill
+abbrev pub bill_of : KeyOutcome → KeyBill
 bill_of outcome = record { checks = outcome.checks; emits = outcome.emits }
 
 -- the bill of a pressed key: what is checked and emitted in its turn at most
-abbrev pub bill : EditorState → PressedKey → Bill
+abbrev pub bill : EditorState → PressedKey → KeyBill
 bill state pressed = bill_of (press state.session pressed.key pressed.reply)
 
 -- ---- turns that are left before their end
@@ -273,7 +273,7 @@ AllCameToEnd [] = Unit {0}
 AllCameToEnd (first ∷ rest) = CameToEnd first × AllCameToEnd rest
 
 -- the bills of the turns of some keys together
-abbrev pub bills : EditorState → List PressedKey → Bill
+abbrev pub bills : EditorState → List PressedKey → KeyBill
 bills state [] = no_bill
 bills state (first ∷ rest) = both_bills (bill state first) (bills (turn state first).after rest)
 

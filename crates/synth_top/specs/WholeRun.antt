@@ -25,7 +25,7 @@ use Rattle.synth_top.specs.Options.{PlainOptions}
 use Rattle.synth_top.specs.Rescue.{CountsRescueWant, IsRescue, Rescue, files_with, rescue_failure}
 use Rattle.synth_top.specs.Task.{PlainTask}
 use Rattle.synth_top.specs.Task.PlainTask.{Edit, Make}
-use Rattle.synth_top.specs.Turn.{AllCameToEnd, Bill, HasReply, HaveReplies, IsToldAs, LeftAtLast, PressedKey, EditorState, Shot, bill, bills, both_bills, state_after_keys, ends, failures, grids, keys_pressed, no_bill, pressed_whole, shot_of, shots, steps_of, turn}
+use Rattle.synth_top.specs.Turn.{AllCameToEnd, KeyBill, HasReply, HaveReplies, IsToldAs, LeftAtLast, PressedKey, EditorState, Shot, bill, bills, both_bills, state_after_keys, ends, failures, grids, keys_pressed, no_bill, pressed_whole, shot_of, shots, steps_of, turn}
 
 -- ---- what is written
 
@@ -232,13 +232,13 @@ module _ {options : PlainOptions} {first : EditorState} {before now : ToldStream
   Stopped wants_before wants_now BadWords = ⊥
 
   -- in a whole run the bill of the turn in which memory ran out, where the key isn't among those pressed
-  abbrev pub wanted_bill : (wants_before wants_now : ℕ) → TurnWanted wants_before wants_now → Bill
+  abbrev pub wanted_bill : (wants_before wants_now : ℕ) → TurnWanted wants_before wants_now → KeyBill
   wanted_bill wants_before wants_now (inl last) = bill state_after (pressed_whole last.wanted last.reply)
   wanted_bill wants_before wants_now (inr step) = no_bill
 
   -- by why a whole run stopped, the bill of the key after those that it pressed: of one that wanted memory, and else
   -- there is none
-  abbrev pub last_bill : (wants_before wants_now : ℕ) (status : Status) → Stopped wants_before wants_now status → Bill
+  abbrev pub last_bill : (wants_before wants_now : ℕ) (status : Status) → Stopped wants_before wants_now status → KeyBill
   last_bill wants_before wants_now NoMemory (inl cut) = no_bill
   last_bill wants_before wants_now NoMemory (inr (inl cut)) = no_bill
   last_bill wants_before wants_now NoMemory (inr (inr later)) = wanted_bill wants_before wants_now later.2
@@ -246,7 +246,7 @@ module _ {options : PlainOptions} {first : EditorState} {before now : ToldStream
 
   -- the bill of a whole run that stopped so, from the opening screen on: those of the keys pressed together, and that
   -- of a key which wanted memory
-  abbrev pub run_bill : (wants_before wants_now : ℕ) (status : Status) → Stopped wants_before wants_now status → Bill
+  abbrev pub run_bill : (wants_before wants_now : ℕ) (status : Status) → Stopped wants_before wants_now status → KeyBill
   run_bill wants_before wants_now status stopped =
       both_bills (bills first course.pressed) (last_bill wants_before wants_now status stopped)
 

@@ -1,7 +1,7 @@
 -- A session whose program was edited, before the edit is noted.
 use Rattle.std.specs.Prelude.{◌≤◌, List, ◌∷◌}
 use Rattle.template_tree.specs.Edits.Receipt.{undone}
-use Rattle.template_tree.specs.Edits.Reversal.{CanRevert}
+use Rattle.template_tree.specs.Edits.Reversal.{CanRevert, reverse_of}
 use Rattle.template_tree.specs.Positions.Stop.{IsStop, PlainStop}
 use Rattle.template_tree.specs.Programs.PlainTree.{PlainTree}
 use Rattle.template_tree.specs.Programs.Tree.{IsTree}
@@ -26,10 +26,19 @@ pub record CameFrom (edits : List EditRecord) (at : PlainStop) (tree : PlainTree
   pub keeps : (earlier : PlainTree) → AgreesWith earlier (program_before applied tree) → AgreesWith earlier tree
   pub fits : EditsFit edits (program_before applied tree)
 
+-- the tree before an edit that was applied, and led from it to the other, as it is kept to be gone back to
+abbrev pub noted_before : (before : PlainTree) → PlainStop → (tree : PlainTree) → Applied → EarlierTree
+noted_before before at tree applied = record {
+  tree = as_kept tree before;
+  stop = at;
+  weight = edit_weight applied.taken;
+  what = reverse_of applied.receipt.change.what;
+  slot = applied.receipt.change.slot.0;
+}
+
 -- the earlier trees to which can be gone back once an edit that led from the one tree to the other is noted: the one
--- before it comes first, with the stop in it and the weight of what was taken out
+-- before it comes first, with the stop in it
 abbrev pub noted_trees : (before : PlainTree) → List EditRecord → PlainStop → (tree : PlainTree) → Applied
     → List EarlierTree
 noted_trees before edits at tree applied =
-    kept_trees
-    (record { tree = as_kept tree before; stop = at; weight = edit_weight applied.taken } ∷ trees_before edits before)
+    kept_trees (noted_before before at tree applied ∷ trees_before edits before)

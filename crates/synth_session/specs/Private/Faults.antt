@@ -7,11 +7,12 @@ use Rattle.phrase_parser.specs.Standing.{Standing}
 use Rattle.phrase_parser.specs.declared.fault.PhraseFault.{PhraseFault}
 use Rattle.phrase_parser.specs.declared.fault.PhraseFault.TheVariants.{Syntax, NumberTooLarge, TooDeep, OutOfMemory}
 use Rattle.template_tree.specs.declared.tree_fault.TreeFault.{TreeFault}
+use Rattle.template_tree.specs.Programs.PlainTree.{PlainTree}
 use Rattle.session_edit.specs.Edited.{Edited}
 use Rattle.plcs_base.specs.PlainCounts.{CountsNothing, PlainCounts}
-use Rattle.synth_session.specs.CheckedPhrases.{phrase_count}
 use Rattle.synth_session.specs.CountedKey.{CountsProgram}
-use Rattle.synth_session.specs.ProgramCode.{code_length}
+use Rattle.synth_session.specs.ProgramBill.{program_bill}
+use Rattle.synth_session.specs.ProgramDue.{program_due}
 
 -- ---- edits
 
@@ -20,12 +21,12 @@ abbrev pub IsEditFault : Edited → TreeFault → Type 0
 IsEditFault outcome TreeFault.OutOfMemory = Unit {0}
 IsEditFault outcome fault = outcome ≡ Edited.refused fault
 
--- what is counted where an edit of the program comes to this: each phrase of the program after it is checked once at
--- most, and each instruction of its code emitted once at most
-abbrev pub CountsEdit : Edited → (before now : PlainCounts) → Type 0
-CountsEdit (Edited.became tree stop taken what slot) before now =
-    CountsProgram (phrase_count tree) (code_length tree) before now
-CountsEdit (Edited.refused fault) before now = CountsNothing before now
+-- what is counted where an edit of this program comes to this: no more phrases of the program after it are checked than
+-- are due, and no more instructions emitted than the bill of the edit says
+abbrev pub CountsEdit : PlainTree → Edited → (before now : PlainCounts) → Type 0
+CountsEdit program (Edited.became tree stop taken what slot) before now =
+    CountsProgram (program_due what slot program tree) (program_bill what slot program tree) before now
+CountsEdit program (Edited.refused fault) before now = CountsNothing before now
 
 -- ---- phrase text
 

@@ -6,9 +6,9 @@ use Rattle.template_tree.specs.Positions.Stop.{PlainStop}
 use Rattle.template_tree.specs.Programs.PlainTree.{PlainTree}
 use Rattle.edit_undo.specs.EarlierTree.{EarlierTree, trees_before}
 use Rattle.edit_undo.specs.declared.edit_record.EditRecord.{EditRecord}
-use Rattle.synth_session.specs.CheckedPhrases.{phrase_count}
 use Rattle.synth_session.specs.CountedKey.{CountsProgram}
-use Rattle.synth_session.specs.ProgramCode.{code_length}
+use Rattle.synth_session.specs.ProgramBill.{program_bill}
+use Rattle.synth_session.specs.ProgramDue.{program_due}
 use Rattle.synth_session.specs.UndoCommand.{stop_or_comment}
 
 -- the program went back to the latest tree before it, with the cursor where it stood in that, or at the comment that
@@ -20,11 +20,13 @@ pub record GoesBackTo (edits_old : List EditRecord) (before : PlainTree) (edits_
   pub back : after ≡ Back before latest.tree
   pub stop_is : stop ≡ stop_or_comment after latest.stop
 
--- what is counted where the program goes back to the latest of these earlier trees, if there is one
+-- what is counted where the program goes back to the latest of these earlier trees, if there is one: no more than for
+-- an edit that did what going back does
 abbrev pub CountsBackTo : List EarlierTree → PlainTree → (before now : PlainCounts) → Type 0
 CountsBackTo [] tree before now = CountsProgram 0 0 before now
 CountsBackTo (latest ∷ others) tree before now =
-    CountsProgram (phrase_count (Back tree latest.tree)) (code_length (Back tree latest.tree)) before now
+    CountsProgram (program_due latest.what latest.slot tree (Back tree latest.tree))
+    (program_bill latest.what latest.slot tree (Back tree latest.tree)) before now
 
 -- what is counted where the newest edit is undone in the program
 abbrev pub CountsUndo : List EditRecord → PlainTree → (before now : PlainCounts) → Type 0

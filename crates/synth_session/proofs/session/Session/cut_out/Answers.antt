@@ -66,10 +66,11 @@ returns-in-Ok-clause-does g c =
     ∙ sym (ap (λ (t : PlainSession). option_map whole_fragment (fragment_there t.tree t.stop t.stop.part)) same) in
     acceptance_does c.args.self.now (record kept { program = program; clips = c.keep.new.clips }) c.accept_edit.new.self c.accept_edit.result
     (cut_outcome s name (edited s.tree s.stop PlainEdit.take) (fragment_there s.tree s.stop s.stop.part))
+    (plain_session kept).tree applied.receipt.change.what applied.receipt.change.slot.0
     (record (session_accepted law kept program applied undoes some) { clips = kept_pairs c.keep.new.clips.pairs })
     (cut_is law kept program applied undoes some name (kept_pairs c.keep.new.clips.pairs) copy
     (fragment_there (plain_session kept).tree (plain_session kept).stop (plain_session kept).stop.part)
-    (edited (plain_session kept).tree (plain_session kept).stop PlainEdit.take) applied.receipt.change.what applied.receipt.change.slot.0 copied
+    (edited (plain_session kept).tree (plain_session kept).stop PlainEdit.take) copied
     c.in-Ok.ensures.became c.keep.ensures
     ∙ ap (λ (t : PlainSession). cut_outcome t name (edited t.tree t.stop PlainEdit.take) (fragment_there t.tree t.stop t.stop.part)) same)
     (c.keep_for_run.ensures.screens) c.accept_edit.ensures
@@ -78,8 +79,8 @@ pub returns-in-Ok-clause-counts : goal.returns-in-Ok-clause-counts
 returns-in-Ok-clause-counts g c =
     let s = plain_session c.args.self.now in
     let kept : plain_session c.keep_for_run.new.self ≡ s = c.keep_for_run.ensures.plain ∙ ap (λ pairs. record s { clips = kept_pairs pairs }) c.reserve.ensures.same in
-    let counts : CountsEdit (edited s.tree s.stop PlainEdit.take) (g.W.Work.counts c.args.work.now) (g.W.Work.counts c.change.new.work) =
-    subst (λ (t : PlainSession). CountsEdit (edited t.tree t.stop PlainEdit.take) (g.W.Work.counts c.args.work.now) (g.W.Work.counts c.change.new.work))
+    let counts : CountsEdit s.tree (edited s.tree s.stop PlainEdit.take) (g.W.Work.counts c.args.work.now) (g.W.Work.counts c.change.new.work) =
+    subst (λ (t : PlainSession). CountsEdit t.tree (edited t.tree t.stop PlainEdit.take) (g.W.Work.counts c.args.work.now) (g.W.Work.counts c.change.new.work))
     kept c.change.ensures.counts in
     cut_counted s c.args.name (edited s.tree s.stop PlainEdit.take) (fragment_there s.tree s.stop s.stop.part)
     (fragment_stands s.tree s.stop c.requires.takes) counts
@@ -89,8 +90,8 @@ pub returns-in-OutOfMemory : goal.returns-in-OutOfMemory
 returns-in-OutOfMemory g c =
     let s = plain_session c.args.self.now in
     let kept : plain_session c.keep_for_run.new.self ≡ s = c.keep_for_run.ensures.plain ∙ ap (λ pairs. record s { clips = kept_pairs pairs }) c.reserve.ensures.same in
-    let counts : CountsEdit (edited s.tree s.stop PlainEdit.take) (g.W.Work.counts c.args.work.now) (g.W.Work.counts c.change.new.work) =
-    subst (λ (t : PlainSession). CountsEdit (edited t.tree t.stop PlainEdit.take) (g.W.Work.counts c.args.work.now) (g.W.Work.counts c.change.new.work))
+    let counts : CountsEdit s.tree (edited s.tree s.stop PlainEdit.take) (g.W.Work.counts c.args.work.now) (g.W.Work.counts c.change.new.work) =
+    subst (λ (t : PlainSession). CountsEdit t.tree (edited t.tree t.stop PlainEdit.take) (g.W.Work.counts c.args.work.now) (g.W.Work.counts c.change.new.work))
     kept c.change.ensures.counts in
     record {
       does = record {
@@ -113,8 +114,8 @@ returns g c =
     let kept : plain_session c.keep_for_run.new.self ≡ s = c.keep_for_run.ensures.plain ∙ ap (λ pairs. record s { clips = kept_pairs pairs }) c.reserve.ensures.same in
     let refused : IsEditFault (edited s.tree s.stop PlainEdit.take) fault =
     subst (λ (t : PlainSession). IsEditFault (edited t.tree t.stop PlainEdit.take) fault) kept c.in-Err.ensures.refused in
-    let counts : CountsEdit (edited s.tree s.stop PlainEdit.take) (g.W.Work.counts c.args.work.now) (g.W.Work.counts c.change.new.work) =
-    subst (λ (t : PlainSession). CountsEdit (edited t.tree t.stop PlainEdit.take) (g.W.Work.counts c.args.work.now) (g.W.Work.counts c.change.new.work))
+    let counts : CountsEdit s.tree (edited s.tree s.stop PlainEdit.take) (g.W.Work.counts c.args.work.now) (g.W.Work.counts c.change.new.work) =
+    subst (λ (t : PlainSession). CountsEdit t.tree (edited t.tree t.stop PlainEdit.take) (g.W.Work.counts c.args.work.now) (g.W.Work.counts c.change.new.work))
     kept c.change.ensures.counts in
     record {
       does = refusal_does c.args.self.now (record c.keep_for_run.new.self { program = c.change.new.self }) c.refuse.new.self c.refuse.result

@@ -50,13 +50,14 @@ returns-in-Ok g c =
     let law = c.room_is_not_shown.ensures.counts in
     let undoes = c.in-Ok.ensures.undoes in
     let some = c.in_ok-keep_for_run.ensures.kept in
-    let counts : CountsEdit (edited s.tree s.stop edit) (g.W.Work.counts c.args.work.now) (g.W.Work.counts c.change.new.work) =
-    subst (λ (t : PlainSession). CountsEdit (edited t.tree t.stop edit) (g.W.Work.counts c.args.work.now) (g.W.Work.counts c.change.new.work))
+    let counts : CountsEdit s.tree (edited s.tree s.stop edit) (g.W.Work.counts c.args.work.now) (g.W.Work.counts c.change.new.work) =
+    subst (λ (t : PlainSession). CountsEdit t.tree (edited t.tree t.stop edit) (g.W.Work.counts c.args.work.now) (g.W.Work.counts c.change.new.work))
     same c.change.ensures.counts in
     record {
       does = acceptance_does c.args.self.now (record kept { program = program }) c.accept_edit.new.self c.accept_edit.result (edited_by s edit)
+          (plain_session kept).tree applied.receipt.change.what applied.receipt.change.slot.0
           (session_accepted law kept program applied undoes some)
-          (edited_is law kept program applied undoes some edit applied.receipt.change.what applied.receipt.change.slot.0 c.in-Ok.ensures.became
+          (edited_is law kept program applied undoes some edit c.in-Ok.ensures.became
           ∙ ap (λ (t : PlainSession). edited_by t edit) same) c.keep_for_run.ensures.screens c.accept_edit.ensures;
       counts = edited_counted s edit counts;
     }
@@ -71,8 +72,8 @@ returns-in_default g c =
     let same = c.keep_for_run.ensures.plain in
     let refused : IsEditFault (edited s.tree s.stop edit) fault =
     subst (λ (t : PlainSession). IsEditFault (edited t.tree t.stop edit) fault) same c.in-Err.ensures.refused in
-    let counts : CountsEdit (edited s.tree s.stop edit) (g.W.Work.counts c.args.work.now) (g.W.Work.counts c.change.new.work) =
-    subst (λ (t : PlainSession). CountsEdit (edited t.tree t.stop edit) (g.W.Work.counts c.args.work.now) (g.W.Work.counts c.change.new.work))
+    let counts : CountsEdit s.tree (edited s.tree s.stop edit) (g.W.Work.counts c.args.work.now) (g.W.Work.counts c.change.new.work) =
+    subst (λ (t : PlainSession). CountsEdit t.tree (edited t.tree t.stop edit) (g.W.Work.counts c.args.work.now) (g.W.Work.counts c.change.new.work))
     same c.change.ensures.counts in
     record {
       does = refusal_does c.args.self.now (record kept { program = c.change.new.self }) c.refuse.new.self c.refuse.result (edited_by s edit)

@@ -1,4 +1,5 @@
 use Rattle.template_tree.specs.Programs.PlainTree.{roomless_tree}
+use Rattle.code_patch.specs.CodeForest.{told_code}
 use Rattle.synth_session.specs.SessionView.{own_steps, plain_session}
 use Rattle.synth_session.specs.Tick.{program_steps}
 use Rattle.synth_session.proofs.ProgramTicks.{code_agrees, defined_tick, same_tick, same_wanted}
@@ -9,7 +10,7 @@ returns-clause-defined g c =
     let now = c.args.self.now in
     let tree = roomless_tree now.program.tree in
     defined_tick (own_steps now) (program_steps tree now.input) tree.items
-    (code_agrees c.steps_of_programs.ensures now.program.tree c.requires.ready.session.agrees.tree now.program.dependents.code c.requires.ready.code now.input)
+    (code_agrees c.steps_of_programs.ensures now.program.tree c.requires.ready.session.agrees.tree (told_code now.program.dependents.code.items) c.requires.ready.code.tells now.input)
     (plain_session now) c.requires.fits c.requires.running
 
 pub returns-clause-same : goal.returns-clause-same
@@ -17,7 +18,7 @@ returns-clause-same g c =
     let now = c.args.self.now in
     let tree = roomless_tree now.program.tree in
     same_tick (own_steps now) (program_steps tree now.input) tree.items
-    (code_agrees c.steps_of_programs.ensures now.program.tree c.requires.ready.session.agrees.tree now.program.dependents.code c.requires.ready.code now.input)
+    (code_agrees c.steps_of_programs.ensures now.program.tree c.requires.ready.session.agrees.tree (told_code now.program.dependents.code.items) c.requires.ready.code.tells now.input)
     (plain_session now) c.requires.fits
 
 pub returns-clause-wanted : goal.returns-clause-wanted
@@ -25,5 +26,5 @@ returns-clause-wanted g c after =
     let now = c.args.self.now in
     let tree = roomless_tree now.program.tree in
     same_wanted (own_steps now) (program_steps tree now.input) tree.items
-    (code_agrees c.steps_of_programs.ensures now.program.tree c.requires.ready.session.agrees.tree now.program.dependents.code c.requires.ready.code now.input)
+    (code_agrees c.steps_of_programs.ensures now.program.tree c.requires.ready.session.agrees.tree (told_code now.program.dependents.code.items) c.requires.ready.code.tells now.input)
     (plain_session now) after c.requires.fits

@@ -7,7 +7,7 @@ use Rattle.synth_session.specs.PlainSession.{PlainSession}
 use Rattle.synth_session.specs.Private.UndoneProgram.{CountsBackTo}
 use Rattle.synth_session.specs.SessionView.{plain_session}
 use Rattle.synth_session.specs.UndoCommand.{undo_outcome}
-use Rattle.synth_session.proofs.AcceptedEdits.{acceptance_does, undone_counted, undone_is}
+use Rattle.synth_session.proofs.AcceptedEdits.{acceptance_does, undone_counted, undone_is, undone_wanted}
 use Rattle.synth_session.proofs.KeptRuns.{kept_stood}
 use Rattle.synth_session.proofs.UndoneEdits.{left_fit, left_stood}
 use Rattle.synth_session.proofs.session.Session.undo_edit.Goals as goal
@@ -44,8 +44,17 @@ returns-in-Ok g c =
     c.undo.ensures.counts in
     record {
       does = acceptance_does c.args.self.now (record kept { program = program; edits = edits }) c.accept_undo.new.self c.accept_undo.result (undo_outcome s)
+          (plain_session kept).tree c.in-Ok.ensures.undone.latest.what c.in-Ok.ensures.undone.latest.slot
           (session_with (plain_session (record kept { program = program; edits = edits })) (roomless_tree program.tree) stop)
           (undone_is kept program edits stop c.in-Ok.ensures.undone c.in_ok-keep_for_run.ensures.kept ∙ ap (λ (t : PlainSession). undo_outcome t) same)
           c.keep_for_run.ensures.screens c.accept_undo.ensures;
       counts = undone_counted s s.earlier counts;
     }
+
+-- memory ran out
+pub returns-in-Err-OutOfMemory-clause-counts : goal.returns-in-Err-OutOfMemory-clause-counts
+returns-in-Err-OutOfMemory-clause-counts g c =
+    let s = plain_session c.args.self.now in
+    undone_wanted s s.earlier
+    (subst (λ (t : PlainSession). CountsBackTo t.earlier t.tree (g.W.Work.counts c.args.work.now) (g.W.Work.counts c.undo.new.work))
+    c.keep_for_run.ensures.plain c.undo.ensures.counts)

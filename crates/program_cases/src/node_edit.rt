@@ -1,0 +1,54 @@
+//! Edits of a program that say no more than at which node they are made.
+ghost use Rattle.std.specs.Prelude.{◌≡◌, IfErr, IfOk};
+ghost use Rattle.template_tree.specs.Edits.Edit.{Differs};
+ghost use Rattle.template_tree.specs.Programs.Tree.{IsTree};
+
+use std::alloc::Global;
+use template_tree::{Change, Path, Side, Tree, TreeFault};
+
+/// An edit of a program at a node.
+#[derive(Clone, Copy)]
+pub enum NodeEdit {
+    /// The node is taken out, and a hole stays.
+    Take,
+    /// A hole is added on this side of the item.
+    Add(Side),
+    /// The hole is dropped from its list.
+    Drop,
+}
+
+/// The edits of a program at a node, with their names.
+pub static NODE_EDITS: [(&[u8], NodeEdit); 4] = [
+    (b"take", NodeEdit::Take),
+    (b"before", NodeEdit::Add(Side::Before)),
+    (b"after", NodeEdit::Add(Side::After)),
+    (b"drop", NodeEdit::Drop),
+];
+
+/// Edits the program at the path, and tells what was changed.
+pub fn edited_at(
+    alloc: Global,
+    tree: &mut Tree,
+    edit: NodeEdit,
+    path: &Path,
+) -> Result<Change, TreeFault>
+    requires { IsTree tree.old }
+    ensures tree { IsTree tree.new }
+    ensures edited { IfOk result (Differs tree.old tree.new) }
+    ensures refused { IfErr result (λ _. tree.new ≡ tree.old) }
+{
+    match edit {
+        NodeEdit::Take => {
+            let (_, receipt) = tree.take(alloc, path)?;
+            Ok(receipt.change())
+        }
+        NodeEdit::Add(side) => {
+            let receipt = tree.add_hole(alloc, path, side)?;
+            Ok(receipt.change())
+        }
+        NodeEdit::Drop => {
+            let receipt = tree.drop_hole(path)?;
+            Ok(receipt.change())
+        }
+    }
+}
