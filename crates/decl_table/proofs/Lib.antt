@@ -8,6 +8,8 @@ mod SettledUses
 mod TableMaps
 -- what the table knows of the procedures that are taken: `Decls::new`
 mod ReadProcedures
+-- a value that is handed out once something is done with it: `pieces_with` of Decls
+mod HandedOut
 -- `NameEdit::of`: the node in the slot of an edit, and what becomes of the names that are kept there
 pub mod SlotNodes
 pub mod MendedNames
@@ -40,6 +42,8 @@ pub mod EditedItems
 pub mod PreparedDecls
 -- making room changes nothing of what a table tells: `Decls::prepare`
 mod ReadyDecls
+-- what an answer holds that is given where a call is Ok: `prepare`, `edit_of` and `due_of` of Decls
+mod OkAnswers
 -- `Decls::edit_of`: the pieces as its calls find them
 pub mod EditPieces
 -- which names an edit affects: `Decls::prepare`

@@ -1,5 +1,5 @@
 -- What the table knows of the procedures that are taken.
-use Rattle.std.proofs.Common.{◌≡◌, ℕ, Bool, true, false, cond, List, [], ◌∷◌, ◌++◌, Option, Some, None, option_map, length, refl, sym, ap, subst, ◌∙◌, arith}
+use Rattle.std.proofs.Common.{◌≡◌, ℕ, Bool, true, false, cond, List, [], ◌++◌, Option, Some, None, option_map, length, refl, sym, ap, subst, ◌∙◌, arith}
 use Rattle.std.specs.Prelude.{nat_eq, unwrap_or}
 use Rattle.std.specs.FinMap.{empty, get, get-empty, get-insert}
 use Rattle.std.specs.Option.{option_or}
@@ -7,24 +7,18 @@ use Rattle.std.specs.Ordering.{nat_cmp}
 use Rattle.std.proofs.lemmas.Cmp.{nat_cmp_total, nat_eq_equiv}
 use Rattle.std.proofs.lemmas.List.{append-nil}
 use Rattle.plcs_base.specs.declared.place.PhraseAt.{PhraseAt}
-use Rattle.template_tree.specs.Checks.Environment.{Items, Sig, Signature, items_inside, procedure_at, signature_for}
+use Rattle.template_tree.specs.Checks.Environment.{Sig, Signature, items_inside, procedure_at, signature_for}
 use Rattle.template_tree.specs.Checks.Mention.{AreUses, mentions}
 use Rattle.template_tree.specs.Programs.PlainTree.{Forest, PlainNode}
 use Rattle.template_tree.specs.Programs.Program.{AreNodes}
-use Rattle.decl_table.specs.Agreement.{IsDeclsOf}
 use Rattle.template_tree.specs.Checks.ProgramMaps.{items_in}
-use Rattle.decl_table.specs.PlainDecls.{PlainDecls, mentions_of, slot_of}
-use Rattle.decl_table.specs.Private.DeclsView.{TakesProcedure}
+use Rattle.decl_table.specs.PlainDecls.{PlainDecls, slot_of}
+use Rattle.decl_table.specs.Private.DeclsView.{IsRead, TakesProcedure}
 use Rattle.decl_table.specs.Private.UsesView.{IsSettled}
 use Rattle.decl_table.specs.Names.{names_of}
 use Rattle.decl_table.specs.Private.PlainNameNode.{HaveFewParts, PlainNameNode, kept_mentions, kept_part_mentions, node_names}
 use Rattle.decl_table.proofs.KeptMentions.{mentions_are, names_few}
 use Rattle.plcs_base.specs.PlaceOrder.{nat_ties}
-
--- the table has what these main and procedures say
-pub record IsRead (decls : PlainDecls) (rest : Forest) : Type 0 where
-  pub items : (slot : ℕ) → items_in decls.items slot ≡ Items rest slot
-  pub headings : (name : List ℕ) → slot_of name decls.headings ≡ option_map (λ (s : Signature). s.slot) (Sig rest name)
 
 -- an empty table of none
 pub read_none : (decls : PlainDecls) → decls.items ≡ empty → decls.headings ≡ [] → IsRead decls Forest.nil
@@ -70,19 +64,6 @@ uses_read name items root settled inner parts are =
     ∙ append-nil (kept_mentions name root.inner) ∙ ap (kept_mentions name) inner ∙ mentions_are name items in
     let same = subst (λ places. IsSettled places settled) all are in
     record { increasing = same.increasing; each = same.each }
-
--- all are taken, the names are kept, and the uses are settled
-pub read_all : (decls : PlainDecls) (items : Forest) (made : PlainDecls) (root : PlainNameNode) → IsRead decls items
-    → made.items ≡ decls.items → made.headings ≡ decls.headings → made.names ≡ root.inner → root.inner ≡ names_of items
-    → root.label.parts ≡ [] → ((name : List ℕ) → IsSettled (kept_mentions name (node_names root)) (mentions_of name made.uses))
-    → IsDeclsOf made items
-read_all decls items made root read same_items same_headings same_names inner parts are =
-    record {
-      items_are = λ slot. ap (λ m. items_in m slot) same_items ∙ read.items slot;
-      headings_are = λ name. ap (slot_of name) same_headings ∙ read.headings name;
-      uses_are = λ name. uses_read name items root (mentions_of name made.uses) inner parts (are name);
-      names_are = same_names ∙ inner;
-    }
 
 -- the root of the names of a program, which has no parts itself
 pub root_few : (root : PlainNameNode) (items : Forest) → AreNodes items → root.inner ≡ names_of items → root.label.parts ≡ []

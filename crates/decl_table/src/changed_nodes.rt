@@ -54,10 +54,29 @@ impl ChangedNodes<'_> {
         ensures { IfOk result (λ mended. AreUsesMended self.now.part (option_copied self.now.old)
             (option_copied self.now.new) before.now.uses mended.uses) }
     {
-        let went = self.went(alloc)?;
-        let came = self.came(alloc)?;
-        let mended = before.mended(alloc, &went, &came)?;
-        Ok(mended)
+        let Ok(went) = self.went(alloc) else {
+            return Err(OutOfMemory);
+        };
+        let uses = self.mended_without(alloc, before, &went);
+        drop(went);
+        uses
+    }
+
+    /// The same, where these are the places of the phrases that went.
+    fn mended_without(&self, alloc: Global, before: &Uses, went: &Uses) -> Result<Uses, OutOfMemory>
+        requires ordered { AreOrdered before.now.uses }
+        requires went { (name : List ℕ)
+            → IsSettled (places_of self.now.part (option_copied self.now.old) name) (mentions_of name went.now.uses) }
+        requires new { self.now.part ≡ None → IfSome self.now.new (λ node. HaveFewParts (node_names node.now)) }
+        ensures { IfOk result (λ mended. AreUsesMended self.now.part (option_copied self.now.old)
+            (option_copied self.now.new) before.now.uses mended.uses) }
+    {
+        let Ok(came) = self.came(alloc) else {
+            return Err(OutOfMemory);
+        };
+        let uses = before.mended(alloc, went, &came);
+        drop(came);
+        uses
     }
 
     /// The places of the phrases that went, in order.

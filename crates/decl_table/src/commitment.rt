@@ -11,15 +11,15 @@ impl Decls {
         ensures { IsPutInPlace edit self.old self.new }
     {
         let DeclEdit {
-            table,
+            mut table,
             items,
             headings,
             uses,
             names,
             ..
         } = edit;
-        let Decls { scopes, .. } = table;
-        self.scopes.change(items, scopes);
+        self.scopes.change(items, &mut table.scopes);
+        drop(table);
         self.headings.put_in_place(headings);
         self.uses.put_in_place(uses);
         self.names.put_in_place(names);

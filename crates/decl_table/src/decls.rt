@@ -11,7 +11,9 @@ ghost use Rattle.template_tree.specs.Programs.Tree.{IsTree};
 ghost use Rattle.decl_table.specs.Agreement.{IsDeclsOf};
 ghost use Rattle.template_tree.specs.Checks.ProgramMaps.{items_in};
 ghost use Rattle.decl_table.specs.PlainDecls.{mentions_of, slot_of};
-ghost use Rattle.decl_table.specs.Private.DeclsView.{TakesProcedure};
+ghost use Rattle.decl_table.specs.Names.{names_of};
+ghost use Rattle.decl_table.specs.Private.DeclsView.{IsRead, TakesProcedure};
+ghost use Rattle.template_tree.specs.Checks.Mention.{AreUses};
 
 use crate::headings::Headings;
 use crate::items::Items;
@@ -59,8 +61,30 @@ impl Decls {
         requires tree { IsTree tree.now }
         ensures { IfOk result (λ decls. IsDeclsOf decls tree.now.items) }
     {
-        items_are_nodes();
         let mut decls = Decls::none(alloc);
+        decls.fill(alloc, tree).and(Ok(decls))
+    }
+
+    /// Takes all that the tree has into the table, which has nothing yet.
+    fn fill(&mut self, alloc: Global, tree: &Tree) -> Result<(), OutOfMemory>
+        requires tree { IsTree tree.now }
+        requires items { self.old.items ≡ empty }
+        requires headings { self.old.headings ≡ [] }
+        ensures { OnOk result (IsDeclsOf self.new tree.now.items) }
+    {
+        self.take_all(alloc, tree)?;
+        self.take_names(alloc, tree)?;
+        Ok(())
+    }
+
+    /// Takes main and the procedures of the tree into the table, which has nothing yet.
+    fn take_all(&mut self, alloc: Global, tree: &Tree) -> Result<(), OutOfMemory>
+        requires tree { IsTree tree.now }
+        requires items { self.old.items ≡ empty }
+        requires headings { self.old.headings ≡ [] }
+        ensures { OnOk result (IsRead self.new tree.now.items) }
+    {
+        items_are_nodes();
         let mut k = tree.procedures() + 1;
         // From the last on, so that the first heading of a name takes the place of later ones.
         while k > 0 {
@@ -68,11 +92,25 @@ impl Decls {
             let Some(procedure) = tree.node(&path_of_item(k)) else {
                 unreachable!()
             };
-            decls.take(alloc, procedure)?;
+            self.take(alloc, procedure)?;
         }
+        Ok(())
+    }
+
+    /// Takes the names that each node of the tree mentions into the table, and the uses of each name.
+    fn take_names(&mut self, alloc: Global, tree: &Tree) -> Result<(), OutOfMemory>
+        requires tree { IsTree tree.now }
+        ensures items { self.new.items ≡ self.old.items }
+        ensures headings { self.new.headings ≡ self.old.headings }
+        ensures uses { OnOk result ((name : List ℕ)
+            → AreUses name tree.now.items (mentions_of name self.new.uses)) }
+        ensures names { OnOk result (self.new.names ≡ names_of tree.now.items) }
+    {
         let names = NameNode::of_program(alloc, tree)?;
         let uses = Uses::of(alloc, &names)?;
-        Ok(decls.with_names(names, uses))
+        self.names = names;
+        self.uses = uses;
+        Ok(())
     }
 
     /// A table that has nothing yet. It takes no memory.
@@ -120,29 +158,6 @@ impl Decls {
         ensures items { self.new.items ≡ self.old.items }
     {
         self.headings.put(name.copy(), slot)
-    }
-
-    /// The table with these names of nodes, and these uses of names.
-    fn with_names(self, names: NameNode, uses: Uses) -> Decls
-        ensures { result ≡ record {
-          items = self.items;
-          headings = self.headings;
-          uses = uses.uses;
-          names = names.inner;
-          spare = result.spare;
-        } }
-    {
-        let Decls {
-            scopes,
-            headings,
-            ..
-        } = self;
-        Decls {
-            scopes,
-            headings,
-            uses,
-            names,
-        }
     }
 
     /// What the table says of a name in a procedure: the effective item that the procedure has of the

@@ -1,5 +1,5 @@
 //! The effective items of one procedure, or some of them, found by name and by number.
-ghost use Rattle.std.specs.Prelude.{◌≡◌, ◌∷◌, ◌++◌, [], ℕ, false, if◌then◌else◌, IfSome, List, OnErr, OnOk, Some, bytes_eq, is_some, length, option_and_then, option_map, slice_get};
+ghost use Rattle.std.specs.Prelude.{◌≡◌, ◌∷◌, ◌++◌, [], ℕ, false, if◌then◌else◌, IfOk, IfSome, List, None, OnErr, OnOk, Some, bytes_eq, is_some, length, option_and_then, option_map, slice_get};
 ghost use Rattle.std.specs.List.{IsDistinct, list_any};
 ghost use Rattle.std.specs.Option.{option_copied};
 ghost use Rattle.template_tree.specs.Checks.Environment.{cells_of, item_named, declared_as, scalar_kind};
@@ -50,6 +50,16 @@ impl Items {
         Items {
             shapes: IndexMap::new(alloc),
         }
+    }
+
+    /// This one item.
+    pub(crate) fn alone(alloc: Global, item: &Declared) -> Result<Items, OutOfMemory>
+        ensures { IfOk result (λ items. (name : List ℕ) → item_named name items
+            ≡ (if bytes_eq item.now.name name then Some item.now else None)) }
+    {
+        let mut items = Items::new(alloc);
+        let noted = items.put(&item.name, Shape::of(item));
+        noted.and(Ok(items))
     }
 
     /// Puts one more item behind the others, or in the place of the one that has its name.

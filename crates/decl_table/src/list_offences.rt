@@ -1,5 +1,5 @@
 //! What is wrong with the declared lists of a procedure.
-ghost use Rattle.std.specs.Prelude.{◌≡◌, ◌<◌, [], IfOk, slice_get};
+ghost use Rattle.std.specs.Prelude.{◌≡◌, ◌<◌, [], IfOk, OnOk, slice_get};
 ghost use Rattle.std.specs.Option.{option_flatten};
 ghost use Rattle.decl_table.specs.ListOffences.{list_offences};
 ghost use Rattle.template_tree.specs.Programs.Limit.{most_slots};
@@ -36,16 +36,38 @@ impl ListOffences {
         requires few { count procedure.now.inner < most_slots }
         ensures { IfOk result (λ offences. offences ≡ list_offences [] procedure.now.inner) }
     {
-        items_are_nodes();
+        let mut offences = ListOffences {
+            list: Vec::new(alloc),
+        };
+        offences.note(alloc, procedure).and(Ok(offences))
+    }
+
+    /// Notes what is wrong with the declared lists of the procedure, where nothing is noted yet.
+    fn note(&mut self, alloc: Global, procedure: &Node) -> Result<(), OutOfMemory>
+        requires few { count procedure.now.inner < most_slots }
+        requires none { self.old ≡ [] }
+        ensures { OnOk result (self.new ≡ list_offences [] procedure.now.inner) }
+    {
         let mut fold = ItemFold::new(alloc);
-        let mut list = Vec::new(alloc);
+        self.note_all(&mut fold, procedure)
+    }
+
+    /// Notes the offences of the nodes of the procedure, whose items are taken one after the other, where nothing is
+    /// noted and none is taken yet.
+    fn note_all(&mut self, fold: &mut ItemFold, procedure: &Node) -> Result<(), OutOfMemory>
+        requires few { count procedure.now.inner < most_slots }
+        requires none { self.old ≡ [] }
+        requires bare { fold.old ≡ [] }
+        ensures { OnOk result (self.new ≡ list_offences [] procedure.now.inner) }
+    {
+        items_are_nodes();
         let mut k = 0;
         while let Some(node) = procedure.child(k) {
             let offence = fold.declare_all(node)?;
-            list.push(offence)?;
+            self.list.push(offence)?;
             k += 1;
         }
-        Ok(ListOffences { list })
+        Ok(())
     }
 
     /// The first offence of what the node of this number declares inside the procedure, counted from 0, or `None`

@@ -1,28 +1,35 @@
 //! Edits of a tree, prepared in its table of declarations: all memory is taken, and nothing is put in place.
-ghost use Rattle.std.specs.Prelude.{◌≡◌, ◌↔◌, ◌||◌, ◌<◌, ◌≤◌, ◌++◌, [], ℕ, false, true, IfOk, IfSome, List, None, OnOk};
+ghost use Rattle.std.specs.Prelude.{◌≡◌, ◌↔◌, ◌||◌, ◌<◌, ◌≤◌, ◌++◌, [], ℕ, false, true, IfOk, IfSome, Contains, List, None, OnOk, Some, flat_map};
+ghost use Rattle.plcs_base.specs.declared.place.PhraseAt.{PhraseAt};
+ghost use Rattle.plcs_grammar.specs.PlainPhrase.{PlainPhrase};
 ghost use Rattle.template_tree.specs.Programs.Limit.{most_slots};
 ghost use Rattle.template_tree.specs.Programs.Slots.{count};
+ghost use Rattle.std.specs.FinMap.{empty};
 ghost use Rattle.std.specs.Option.{option_copied};
-ghost use Rattle.template_tree.specs.Programs.PlainTree.{PlainTree};
+ghost use Rattle.template_tree.specs.Programs.PlainTree.{PlainNode, PlainTree};
 ghost use Rattle.template_tree.specs.Checks.ProgramMaps.{items_in};
 ghost use Rattle.template_tree.specs.Programs.Program.{IsSubtree};
 ghost use Rattle.template_tree.specs.Programs.Tree.{IsTree};
 ghost use Rattle.decl_table.specs.Agreement.{IsDeclsBefore};
 ghost use Rattle.decl_table.specs.DeclEdit.{CanPutInTable, HasItemsOf, IsDeclEdit, IsDeclsAfter, KnowsDue, MayMendNames, names_mended};
+ghost use Rattle.decl_table.specs.Knowledge.{Knows, Stands};
 ghost use Rattle.decl_table.specs.Names.{names_of};
 ghost use Rattle.template_tree.specs.Edits.Edit.{Differs};
 ghost use Rattle.decl_table.specs.Due.{AreDue, AreGone};
 ghost use Rattle.decl_table.specs.PlainDecls.{roomless_decls, slot_of};
 ghost use Rattle.decl_table.specs.Private.AffectedView.{IsGathered};
-ghost use Rattle.decl_table.specs.Private.ChangeBefore.{IsEditOf, part_of};
-ghost use Rattle.decl_table.specs.Private.DuePlaces.{AreDueBy, due_lists};
+ghost use Rattle.decl_table.specs.Private.ChangeBefore.{IsEditOf, part_of, spots_of};
+ghost use Rattle.decl_table.specs.Private.DeclEditView.{pieces_edit};
+ghost use Rattle.decl_table.specs.Private.DuePlaces.{AreDueBy, due_lists, uses_now};
 ghost use Rattle.decl_table.specs.Private.HeadingChangesView.{IsHeadingNoted, MayBeNoted, NotesHeadings, stands_in};
 ghost use Rattle.decl_table.specs.Private.ItemChangeView.{drops_item, items_become, plain_item_change, procedure_left};
-ghost use Rattle.decl_table.specs.Private.KnownTable.{items_only};
+ghost use Rattle.decl_table.specs.Private.KnownTable.{IsGathering, IsSource, KeepsOwn, items_only};
 ghost use Rattle.decl_table.specs.Private.ItemTests.{is_slot, names_turn, own_turns, turns_inside};
 ghost use Rattle.decl_table.specs.Private.NameTests.{AddsNames, has_name};
 ghost use Rattle.decl_table.specs.Private.PlainNameNode.{HaveFewParts, node_names};
 ghost use Rattle.decl_table.specs.Private.ReachView.{has_heading, has_items, has_lists};
+ghost use Rattle.decl_table.specs.Private.UsesMended.{AreUsesMended};
+ghost use Rattle.decl_table.specs.Private.UsesView.{AreOrdered, IsSettled};
 
 use crate::changed_nodes::ChangedNodes;
 use crate::decl_edit::{DeclEdit, ItemChange};
@@ -37,20 +44,62 @@ use crate::name_node::NameNode;
 use crate::name_set::NameSet;
 use crate::reach::Reach;
 use crate::uses::Uses;
-use plcs_base::{Name, OutOfMemory, Slot};
+use plcs_base::{Name, OutOfMemory, PhraseAt, Slot};
 use std::alloc::Global;
 use template_tree::{
     Change, Node, Tree, What, checks_ignore_room_and_elision, heading_name, heading_parameters,
     items_are_nodes, path_of_item, room_is_not_shown, slot_edit_is_path_edit,
 };
 
-/// What is gathered of an edit: a table with the effective items that come, what becomes of those of a procedure, and
-/// the places of the phrases that are due for a check.
+/// The pieces of an edit beside what becomes of the names of nodes, while they are found.
 #[derive(Drop)]
-pub(crate) struct Gathered {
+pub(crate) struct Pieces {
+    pub(crate) due: MentionList,
+    pub(crate) gone: MentionList,
     pub(crate) table: Decls,
     pub(crate) items: ItemChange,
-    pub(crate) due: MentionList,
+    pub(crate) headings: HeadingChanges,
+    pub(crate) uses: Uses,
+}
+
+impl Pieces {
+    /// No pieces yet. It takes no memory.
+    fn none(alloc: Global) -> Pieces
+        ensures items { result.table.items ≡ empty }
+        ensures headings { result.table.headings ≡ [] }
+    {
+        Pieces {
+            due: MentionList::new(alloc),
+            gone: MentionList::new(alloc),
+            table: Decls::none(alloc),
+            items: ItemChange::Stay,
+            headings: HeadingChanges::none(alloc),
+            uses: Uses::new(alloc),
+        }
+    }
+
+    /// The edit of these pieces, where this becomes of the names of nodes.
+    fn with_names(self, names: NameEdit) -> DeclEdit
+        ensures { result ≡ pieces_edit self names }
+    {
+        let Pieces {
+            due,
+            gone,
+            table,
+            items,
+            headings,
+            uses,
+        } = self;
+        DeclEdit {
+            due,
+            gone,
+            table,
+            items,
+            headings,
+            uses,
+            names,
+        }
+    }
 }
 
 impl Decls {
@@ -73,11 +122,11 @@ impl Decls {
             → IfOk result (IsDeclEdit before tree.now change.now self.new) }
         ensures ready { IfOk result (λ edit. CanPutInTable edit self.new) }
     {
-        let edit = self.edit_of(alloc, tree, change)?;
-        if let Err(OutOfMemory) = self.make_room(edit.headings.len(), edit.uses.len()) {
+        let Ok(edit) = self.edit_of(alloc, tree, change) else {
             return Err(OutOfMemory);
-        }
-        Ok(edit)
+        };
+        let room = self.make_room(edit.headings.len(), edit.uses.len());
+        room.and(Ok(edit))
     }
 
     /// Makes room for the items of one more procedure, for so many more headings, and for so many more names that are
@@ -108,33 +157,47 @@ impl Decls {
         ensures names { IfOk result (λ edit. MayMendNames edit.names.mend edit.names.path self.now.names) }
         ensures table { IfOk result (λ edit. HasItemsOf edit.decls.items edit.items) }
     {
-        let pieces = self.pieces_of(alloc, tree, change)?;
-        let DeclEdit {
-            due,
-            gone,
-            table,
-            items,
-            headings,
-            uses,
-            names,
-        } = pieces;
-        let mut table = table;
+        let Ok(mut edit) = self.pieces_of(alloc, tree, change) else {
+            return Err(OutOfMemory);
+        };
+        let filled = &mut edit;
+        let known = self.know_due(
+            alloc,
+            tree,
+            &filled.headings,
+            filled.items,
+            &mut filled.table,
+            filled.due.as_slice(),
+        );
+        known.and(Ok(edit))
+    }
+
+    /// Gathers in the other table what has to be known where the phrases at these places of the edited tree are checked,
+    /// where these become of effective headings, and this of effective items.
+    fn know_due<'a>(
+        &'a self,
+        alloc: Global,
+        tree: &'a Tree,
+        headings: &'a HeadingChanges,
+        items: ItemChange,
+        table: &mut Decls,
+        due: &[PhraseAt],
+    ) -> Result<(), OutOfMemory>
+        requires tree { IsTree tree.now }
+        requires source { IsSource self.now headings.now items tree.now.items }
+        requires gathering { IsGathering items tree.now.items table.old }
+        ensures own { OnOk result (KeepsOwn items table.old table.new) }
+        ensures knows { OnOk result ((at : PhraseAt) (procedure : PlainNode) (phrase : PlainPhrase)
+            → Contains due.now at → Stands tree.now.items at procedure phrase
+            → Knows table.new tree.now.items procedure phrase) }
+    {
         let sources = Sources {
             before: self,
             tree,
-            headings: &headings,
+            headings,
             items,
         };
-        sources.know_all(alloc, &mut table, due.as_slice())?;
-        Ok(DeclEdit {
-            due,
-            gone,
-            table,
-            items,
-            headings,
-            uses,
-            names,
-        })
+        sources.know_all(alloc, table, due)
     }
 
     /// What an edit of the tree that made this change makes of the table, where the edit's own table has the items
@@ -188,6 +251,40 @@ impl Decls {
         ensures only { IfOk result (λ edit. edit.decls.items ≡ items_only edit.items) }
         ensures headings { IfOk result (λ edit. edit.decls.headings ≡ []) }
     {
+        let mut pieces = Pieces::none(alloc);
+        self.find_pieces(alloc, tree, change, &names, &mut pieces)
+            .and(Ok(pieces.with_names(names)))
+    }
+
+    /// Finds the pieces of the edit that go with what becomes of the names of nodes.
+    fn find_pieces(
+        &self,
+        alloc: Global,
+        tree: &Tree,
+        change: &Change,
+        names: &NameEdit,
+        pieces: &mut Pieces,
+    ) -> Result<(), OutOfMemory>
+        requires tree { IsTree tree.now }
+        requires before { (before : PlainTree) × IsDeclsBefore self.now before tree.now change.now }
+        requires edit { (before : PlainTree) → IsTree before → self.now.names ≡ names_of before.items
+            → Differs before tree.now change.now
+            → IsEditOf change.now.what change.now.slot.0 before.items tree.now.items names.now }
+        requires after { names_mended names.now.mend names.now.path self.now.names ≡ names_of tree.now.items }
+        requires items { pieces.old.table.items ≡ empty }
+        requires headings { pieces.old.table.headings ≡ [] }
+        ensures after { (before : PlainTree) → IsDeclsBefore self.now before tree.now change.now
+            → OnOk result (IsDeclsAfter self.now (pieces_edit pieces.new names.now) tree.now.items) }
+        ensures due { (before : PlainTree) → IsDeclsBefore self.now before tree.now change.now
+            → OnOk result (AreDue before.items tree.now.items change.now pieces.new.due) }
+        ensures gone { (before : PlainTree) → IsDeclsBefore self.now before tree.now change.now
+            → OnOk result (AreGone before.items change.now pieces.new.gone) }
+        ensures table { OnOk result
+            (HasItemsOf pieces.new.table.items (plain_item_change pieces.new.items pieces.new.table.items)) }
+        ensures only { OnOk result (pieces.new.table.items
+            ≡ items_only (plain_item_change pieces.new.items pieces.new.table.items)) }
+        ensures headings { OnOk result (pieces.new.table.headings ≡ []) }
+    {
         slot_edit_is_path_edit();
         room_is_not_shown();
         checks_ignore_room_and_elision();
@@ -198,50 +295,103 @@ impl Decls {
         };
         let reach = Reach::of(&nodes, names.path());
         let procedure = procedure_after(tree, change, names.path());
-        let uses = nodes.mended(alloc, &self.uses)?;
-        let headings = heading_changes(alloc, tree, &nodes, reach)?;
-        let gone = nodes.gone(alloc)?;
-        let found = self.gathered(alloc, &nodes, &uses, change, procedure, reach)?;
-        let Gathered { table, items, due } = found;
-        Ok(DeclEdit {
-            due,
-            gone,
-            table,
-            items,
-            headings,
-            uses,
-            names,
-        })
+        self.find_changed(alloc, tree, &nodes, change, procedure, reach, pieces)?;
+        Ok(())
     }
 
-    /// What is gathered of an edit that changed these nodes and uses: the items that come, and what is due.
-    fn gathered(
+    /// Finds the pieces of an edit that changed these nodes in the procedure, if it is there, and reaches so far.
+    fn find_changed(
         &self,
         alloc: Global,
+        tree: &Tree,
         nodes: &ChangedNodes<'_>,
-        uses: &Uses,
         change: &Change,
         procedure: Option<&Node>,
         reach: Reach,
-    ) -> Result<Gathered, OutOfMemory>
+        pieces: &mut Pieces,
+    ) -> Result<(), OutOfMemory>
+        requires tree { IsTree tree.now }
+        requires ordered { AreOrdered self.now.uses }
+        requires went { nodes.now.part ≡ None → IfSome nodes.now.old (λ node. HaveFewParts (node_names node.now)) }
         requires came { nodes.now.part ≡ None → IfSome nodes.now.new (λ node. HaveFewParts (node_names node.now)) }
         requires subtree { IfSome procedure (λ node. IsSubtree node.now) }
         requires few { IfSome procedure (λ node. count node.now.inner < most_slots) }
-        ensures due { IfOk result (λ found. AreDueBy reach nodes.now.part (option_copied nodes.now.old)
-            (option_copied nodes.now.new) self.now uses.now.uses (items_in self.now.items change.now.procedure.0)
-            (items_in found.table.items change.now.procedure.0) (option_copied procedure.entry) found.due) }
-        ensures items { IfOk result (λ found. plain_item_change found.items found.table.items
+        requires items { pieces.old.table.items ≡ empty }
+        requires headings { pieces.old.table.headings ≡ [] }
+        ensures uses { OnOk result (AreUsesMended nodes.now.part (option_copied nodes.now.old)
+            (option_copied nodes.now.new) self.now.uses pieces.new.uses.uses) }
+        ensures none { OnOk result (has_heading reach ≡ false → pieces.new.headings ≡ []) }
+        ensures right { OnOk result (MayBeNoted tree.now.items pieces.new.headings) }
+        ensures noted { OnOk result (has_heading reach ≡ true → (name : List ℕ)
+            → (stands_in (option_copied nodes.now.old) name || stands_in (option_copied nodes.now.new) name) ≡ true
+            → IsHeadingNoted tree.now.items pieces.new.headings name) }
+        ensures gone { OnOk result
+            (IsSettled (spots_of nodes.now.part (option_copied nodes.now.old)) pieces.new.gone) }
+        ensures due { OnOk result (AreDueBy reach nodes.now.part (option_copied nodes.now.old)
+            (option_copied nodes.now.new) self.now pieces.new.uses.uses
+            (items_in self.now.items change.now.procedure.0)
+            (items_in pieces.new.table.items change.now.procedure.0) (option_copied procedure.entry) pieces.new.due) }
+        ensures items { OnOk result (plain_item_change pieces.new.items pieces.new.table.items
             ≡ items_become (has_items reach) change.now.slot.0 (option_copied procedure.entry)) }
-        ensures there { IfOk result (λ found.
-            HasItemsOf found.table.items (plain_item_change found.items found.table.items)) }
-        ensures only { IfOk result (λ found.
-            found.table.items ≡ items_only (plain_item_change found.items found.table.items)) }
-        ensures headings { IfOk result (λ found. found.table.headings ≡ []) }
+        ensures there { OnOk result
+            (HasItemsOf pieces.new.table.items (plain_item_change pieces.new.items pieces.new.table.items)) }
+        ensures only { OnOk result (pieces.new.table.items
+            ≡ items_only (plain_item_change pieces.new.items pieces.new.table.items)) }
+        ensures headings { OnOk result (pieces.new.table.headings ≡ []) }
     {
-        let mut table = Decls::none(alloc);
-        let items = take_items(alloc, &mut table, change, procedure, reach)?;
-        let due = self.due_of(alloc, nodes, uses, &table, change, procedure, reach)?;
-        Ok(Gathered { table, items, due })
+        let uses = nodes.mended(alloc, &self.uses)?;
+        pieces.uses = uses;
+        let headings = heading_changes(alloc, tree, nodes, reach)?;
+        pieces.headings = headings;
+        let gone = nodes.gone(alloc)?;
+        pieces.gone = gone;
+        self.gather(alloc, nodes, change, procedure, reach, pieces)?;
+        Ok(())
+    }
+
+    /// Gathers the items that come by an edit that changed these nodes, and what is due, where the uses are found.
+    fn gather(
+        &self,
+        alloc: Global,
+        nodes: &ChangedNodes<'_>,
+        change: &Change,
+        procedure: Option<&Node>,
+        reach: Reach,
+        pieces: &mut Pieces,
+    ) -> Result<(), OutOfMemory>
+        requires came { nodes.now.part ≡ None → IfSome nodes.now.new (λ node. HaveFewParts (node_names node.now)) }
+        requires subtree { IfSome procedure (λ node. IsSubtree node.now) }
+        requires few { IfSome procedure (λ node. count node.now.inner < most_slots) }
+        requires items { pieces.old.table.items ≡ empty }
+        requires headings { pieces.old.table.headings ≡ [] }
+        ensures due { OnOk result (AreDueBy reach nodes.now.part (option_copied nodes.now.old)
+            (option_copied nodes.now.new) self.now pieces.old.uses.uses
+            (items_in self.now.items change.now.procedure.0)
+            (items_in pieces.new.table.items change.now.procedure.0) (option_copied procedure.entry) pieces.new.due) }
+        ensures items { OnOk result (plain_item_change pieces.new.items pieces.new.table.items
+            ≡ items_become (has_items reach) change.now.slot.0 (option_copied procedure.entry)) }
+        ensures there { OnOk result
+            (HasItemsOf pieces.new.table.items (plain_item_change pieces.new.items pieces.new.table.items)) }
+        ensures only { OnOk result (pieces.new.table.items
+            ≡ items_only (plain_item_change pieces.new.items pieces.new.table.items)) }
+        ensures headings { OnOk result (pieces.new.table.headings ≡ []) }
+        ensures same_gone { pieces.new.gone ≡ pieces.old.gone }
+        ensures same_headings { pieces.new.headings ≡ pieces.old.headings }
+        ensures same_uses { pieces.new.uses ≡ pieces.old.uses }
+    {
+        let items = take_items(alloc, &mut pieces.table, change, procedure, reach)?;
+        pieces.items = items;
+        let due = self.due_of(
+            alloc,
+            nodes,
+            &pieces.uses,
+            &pieces.table,
+            change,
+            procedure,
+            reach,
+        )?;
+        pieces.due = due;
+        Ok(())
     }
 
     /// The places of the phrases that are due for a check: those that the edit put in, the lists of names of the
@@ -263,13 +413,38 @@ impl Decls {
             self.now uses.now.uses (items_in self.now.items change.now.procedure.0)
             (items_in table.now.items change.now.procedure.0) (option_copied procedure.entry)) }
     {
-        let affected = self.affected(alloc, nodes, table, change, procedure, reach)?;
+        let Ok(affected) = self.affected(alloc, nodes, table, change, procedure, reach) else {
+            return Err(OutOfMemory);
+        };
         let mut due = MentionList::new(alloc);
-        nodes.add_put_in(&mut due)?;
-        add_due_lists(procedure, reach, &mut due)?;
-        add_uses(affected.as_slice(), &self.uses, uses, &mut due)?;
+        let added = self.add_due(nodes, uses, affected.as_slice(), procedure, reach, &mut due);
+        drop(affected);
+        added.and(Ok(due))
+    }
+
+    /// Adds the places of the phrases that are due for a check where the edit affects these names, and puts all places
+    /// in order.
+    fn add_due(
+        &self,
+        nodes: &ChangedNodes<'_>,
+        uses: &Uses,
+        affected: &[Name],
+        procedure: Option<&Node>,
+        reach: Reach,
+        due: &mut MentionList,
+    ) -> Result<(), OutOfMemory>
+        requires came { nodes.now.part ≡ None → IfSome nodes.now.new (λ node. HaveFewParts (node_names node.now)) }
+        requires subtree { IfSome procedure (λ node. IsSubtree node.now) }
+        requires few { IfSome procedure (λ node. count node.now.inner < most_slots) }
+        ensures { OnOk result (IsSettled (((due.old ++ spots_of nodes.now.part (option_copied nodes.now.new))
+            ++ due_lists (has_lists reach) (option_copied procedure.entry))
+            ++ flat_map (uses_now self.now.uses uses.now.uses) affected.now) due.new) }
+    {
+        nodes.add_put_in(due)?;
+        add_due_lists(procedure, reach, due)?;
+        add_uses(affected, &self.uses, uses, due)?;
         due.settle();
-        Ok(due)
+        Ok(())
     }
 
     /// The names that the edit affects.
@@ -339,6 +514,23 @@ impl Decls {
         let none = Items::new(alloc);
         let old = self.items_or(slot, &none);
         let new = table.items_or(slot, &none);
+        let added = self.add_turned_by(procedure, old, new, names);
+        drop(none);
+        added
+    }
+
+    /// Adds the names of the items for which the old and the new items of the procedure differ, and its own name, if a
+    /// parameter in its effective heading has another kind by the new items.
+    fn add_turned_by(
+        &self,
+        procedure: &Node,
+        old: &Items,
+        new: &Items,
+        names: &mut NameSet,
+    ) -> Result<(), OutOfMemory>
+        ensures { OnOk result (AddsNames (names_turn self.now.headings old.now new.now (Some procedure.now))
+            names.old names.new) }
+    {
         names.add_differing(old, new)?;
         names.add_differing(new, old)?;
         self.add_headed(procedure, old, new, names)

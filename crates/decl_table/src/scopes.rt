@@ -99,8 +99,9 @@ impl Scopes {
         if let Some(items) = self.procedures.get_mut(&procedure.0) {
             return items.put(&item.name, Shape::of(item));
         }
-        let mut items = Items::new(alloc);
-        items.put(&item.name, Shape::of(item))?;
+        let Ok(items) = Items::alone(alloc, item) else {
+            return Err(OutOfMemory);
+        };
         self.put(procedure, items)
     }
 
@@ -122,12 +123,12 @@ impl Scopes {
         self.procedures.swap_remove(&procedure.0)
     }
 
-    /// Does what becomes of the items of a procedure, which are those that the other ones have of it. It takes no
-    /// memory.
-    pub(crate) fn change(&mut self, change: ItemChange, other: Scopes)
+    /// Does what becomes of the items of a procedure, which are taken from the other ones where these have some. It takes
+    /// no memory.
+    pub(crate) fn change(&mut self, change: ItemChange, other: &mut Scopes)
         requires room { 0 < self.old.spare }
-        requires there { HasItemsOf other.items (plain_item_change change other.items) }
-        ensures { self.new.items ≡ items_changed (plain_item_change change other.items) self.old.items }
+        requires there { HasItemsOf other.old.items (plain_item_change change other.old.items) }
+        ensures { self.new.items ≡ items_changed (plain_item_change change other.old.items) self.old.items }
     {
         match change {
             ItemChange::Stay => {}
@@ -135,8 +136,7 @@ impl Scopes {
                 let _ = self.take(slot);
             }
             ItemChange::Set(slot) => {
-                let mut scopes = other;
-                let Some(items) = scopes.take(slot) else {
+                let Some(items) = other.take(slot) else {
                     unreachable!()
                 };
                 match self.put(slot, items) {

@@ -8,8 +8,10 @@ use Rattle.decl_table.specs.PlainDecls.{PlainDecls, PlainUses}
 use Rattle.decl_table.specs.Private.DeclsView.{decls_code}
 use Rattle.decl_table.specs.Private.HeadingChangesView.{heading_changes_code}
 use Rattle.decl_table.specs.Private.ItemsView.{items_code}
+use Rattle.decl_table.specs.Private.ItemChangeView.{plain_item_change}
 use Rattle.decl_table.specs.Private.NamesCode.{name_edit_code}
 use Rattle.decl_table.specs.Private.UsesView.{mention_list_code, uses_code}
+use Rattle.decl_table.specs.declared.preparation.Pieces.{Pieces}
 
 -- what becomes of the effective items of a procedure and of effective headings and uses, and of the names of nodes
 abbrev pub Changes : Type 0
@@ -38,3 +40,15 @@ decl_edit_code =
       names = t.1.1.1.1.1.1;
     })
     (λ _. refl)
+
+-- the edit of the pieces that were found, with what becomes of the names of nodes
+abbrev pub pieces_edit : Pieces → PlainNameEdit → PlainDeclEdit
+pieces_edit pieces names = record {
+  due = pieces.due;
+  gone = pieces.gone;
+  decls = pieces.table;
+  items = plain_item_change pieces.items pieces.table.items;
+  headings = pieces.headings;
+  uses = pieces.uses.uses;
+  names = names;
+}

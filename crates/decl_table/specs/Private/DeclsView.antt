@@ -4,8 +4,9 @@ use Rattle.std.specs.Coded.{Coded, code_by, coded×, coded_list, coded_ℕ}
 use Rattle.std.specs.FinMap.{code, insert}
 use Rattle.std.specs.Option.{option_or}
 use Rattle.plcs_base.specs.Scope.{ItemMap}
-use Rattle.template_tree.specs.Checks.Environment.{items_inside, signature_for}
-use Rattle.template_tree.specs.Programs.PlainTree.{PlainNode}
+use Rattle.template_tree.specs.Checks.Environment.{Items, Sig, items_inside, signature_for}
+use Rattle.template_tree.specs.Checks.ProgramMaps.{items_in}
+use Rattle.template_tree.specs.Programs.PlainTree.{Forest, PlainNode}
 use Rattle.decl_table.specs.PlainDecls.{DeclRoom, PlainHeadings, PlainDecls, PlainUses, slot_of}
 use Rattle.decl_table.specs.Private.ItemsView.{items_code}
 use Rattle.decl_table.specs.Names.{NameForest}
@@ -69,3 +70,8 @@ pub record TakesProcedure (node : PlainNode) (old new : PlainDecls) : Type 0 whe
   pub headings : TakesHeading node old.headings new.headings
   pub uses : new.uses ≡ old.uses
   pub names : new.names ≡ old.names
+
+-- the table has the items and the headings that these main and procedures say
+pub record IsRead (decls : PlainDecls) (rest : Forest) : Type 0 where
+  pub items : (slot : ℕ) → items_in decls.items slot ≡ Items rest slot
+  pub headings : (name : List ℕ) → slot_of name decls.headings ≡ option_map (λ signature. signature.slot) (Sig rest name)

@@ -10,19 +10,19 @@ use Rattle.decl_table.specs.Private.ItemChangeView.{plain_item_change}
 use Rattle.decl_table.proofs.scopes.Scopes.change.Goals as goal
 
 pub returns-in-Stay : goal.returns-in-Stay
-returns-in-Stay c = ap (λ change. items_changed (plain_item_change change c.args.other.items) c.args.self.now.items) (sym c.in-Stay.is)
+returns-in-Stay c = ap (λ change. items_changed (plain_item_change change c.args.other.now.items) c.args.self.now.items) (sym c.in-Stay.is)
 
 pub returns-in-Gone : goal.returns-in-Gone
 returns-in-Gone c =
     c.take.ensures.left
-    ∙ ap (λ change. items_changed (plain_item_change change c.args.other.items) c.args.self.now.items) (sym c.in-Gone.is)
+    ∙ ap (λ change. items_changed (plain_item_change change c.args.other.now.items) c.args.self.now.items) (sym c.in-Gone.is)
 
 pub unreachable-requires : goal.unreachable-requires
 unreachable-requires c =
     let slot = c.in-Set.slot.0 in
-    let has : get c.args.other.items slot ≡ Some (items_in c.args.other.items slot) =
-    subst (λ change. HasItemsOf c.args.other.items (plain_item_change change c.args.other.items)) c.in-Set.is c.requires.there in
-    none-some (items_in c.args.other.items slot) (c.in_default.ensures.taken ∙ has)
+    let has : get c.args.other.now.items slot ≡ Some (items_in c.args.other.now.items slot) =
+    subst (λ change. HasItemsOf c.args.other.now.items (plain_item_change change c.args.other.now.items)) c.in-Set.is c.requires.there in
+    none-some (items_in c.args.other.now.items slot) (c.in_default.ensures.taken ∙ has)
 
 pub unreachable-requires-in-Err : goal.unreachable-requires-in-Err
 unreachable-requires-in-Err c = true≢false (sym (c.in-Err.ensures.succeeds c.requires.room))
@@ -32,4 +32,4 @@ returns-in-Ok c =
     let slot = c.in-Set.slot.0 in
     c.in-Ok.ensures.put
     ∙ ap (insert c.args.self.now.items slot) (ap (λ (o : Option (List Declared)). unwrap_or o []) c.in-Some.ensures.taken)
-    ∙ ap (λ change. items_changed (plain_item_change change c.args.other.items) c.args.self.now.items) (sym c.in-Set.is)
+    ∙ ap (λ change. items_changed (plain_item_change change c.args.other.now.items) c.args.self.now.items) (sym c.in-Set.is)

@@ -48,28 +48,28 @@ returns-clause-named c =
     let old = c.self.inside.procedures.entries in
     let slot = c.args.procedure.0 in
     let item = c.args.item.now in
-    let list = c.put-2.new.self in
-    let was : c.new-items.result ≡ items_in c.args.self.now.items slot =
-    c.new-items.ensures
-    ∙ ap (λ (o : Option (List Declared)). unwrap_or o []) c.in_default.ensures.value
+    let list = c.in-Ok.items in
+    let none : List Declared = [] in
+    let was : none ≡ items_in c.args.self.now.items slot =
+    ap (λ (o : Option (List Declared)). unwrap_or o []) c.in_default.ensures.value
     ∙ items_found old slot _ refl ∙ ap (λ (m : RoomyItems). items_in m.items slot) c.self.view_is in
-    then_ok c.put-3.result
+    then_ok c.put-2.result
     (λ is.
-    noted_item c.args.self.now.items c.put-3.new.self.items slot list
+    noted_item c.args.self.now.items c.put-2.new.self.items slot list
     (is
     ∙ ap (λ m. insert (let n : ItemMap = from_entries m.entries in n) slot list) c.get_mut.follows.holds-at-none
     ∙ ap (λ (m : RoomyItems). insert m.items slot list) c.self.view_is)
-    item (shaped item.name c.of-2.result) c.new-items.result c.of-2.ensures was c.in_ok-put.ensures.named)
-    c.put-3.ensures.put
+    item item none refl was c.in-Ok.ensures)
+    c.put-2.ensures.put
 
 pub returns-clause-others : goal.returns-clause-others
 returns-clause-others c =
     let slot = c.args.procedure.0 in
-    let list = c.put-2.new.self in
-    then_ok c.put-3.result
+    let list = c.in-Ok.items in
+    then_ok c.put-2.result
     (λ is.
-    noted_others c.args.self.now.items c.put-3.new.self.items slot list
+    noted_others c.args.self.now.items c.put-2.new.self.items slot list
     (is
     ∙ ap (λ m. insert (let n : ItemMap = from_entries m.entries in n) slot list) c.get_mut.follows.holds-at-none
     ∙ ap (λ (m : RoomyItems). insert m.items slot list) c.self.view_is))
-    c.put-3.ensures.put
+    c.put-2.ensures.put

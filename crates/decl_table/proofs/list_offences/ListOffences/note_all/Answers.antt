@@ -1,17 +1,17 @@
-use Rattle.std.proofs.Common.{◌≡◌, ◌∙◌, ◌+◌, ◌++◌, ◌∷◌, [], List, Option, append-nil, append_assoc, drop, sym, ap, refl, arith}
+use Rattle.std.proofs.Common.{◌∙◌, ◌+◌, ◌++◌, ◌∷◌, [], List, Option, append-nil, append_assoc, drop, sym, ap, refl, arith}
 use Rattle.std.proofs.lemmas.Option.{slice_get_within}
 use Rattle.plcs_base.specs.ListLeft.{left_from, none_left}
 use Rattle.plcs_base.specs.declared.declared.Declared.{Declared}
 use Rattle.plcs_base.specs.declared.mark.MarkKind.{MarkKind}
-use Rattle.template_tree.specs.Checks.Environment.{declares, effective}
+use Rattle.template_tree.specs.Checks.Environment.{declares}
 use Rattle.template_tree.specs.Checks.Verdict.{declared_offence}
 use Rattle.template_tree.specs.Programs.PlainTree.{forest, forest_nodes, nodes}
 use Rattle.decl_table.specs.ListOffences.{list_offences}
-use Rattle.decl_table.proofs.list_offences.ListOffences.of.Goals as goal
+use Rattle.decl_table.proofs.list_offences.ListOffences.note_all.Goals as goal
 
 pub loop-node-init : goal.loop-node-init
 loop-node-init c = record {
-  made = rw (c.new-list.ensures.items, c.new-fold.ensures, forest_nodes c.args.procedure.now.inner) refl;
+  made = rw (c.self.view_is, c.requires.none, c.requires.bare, forest_nodes c.args.procedure.now.inner) refl;
   within = omega arith;
 }
 
@@ -31,7 +31,7 @@ loop-node-preserved c =
     let rest = forest (drop (c.loop-node.k + 1) all) in
     let label = c.in-Some.node.now.label in
     let fold = c.loop-node.fold in
-    let done = c.loop-node.list.items in
+    let done = c.loop-node.self-inside.list.items in
     let within = slice_get_within all c.loop-node.k c.in-Some.node.now (sym c.in-Some.ensures) in
     record {
       made =
@@ -46,7 +46,7 @@ loop-node-preserved c =
 
 pub returns : goal.returns
 returns c =
-    sym (append-nil c.loop-node.list.items)
-    ∙ ap (λ left. c.loop-node.list.items ++ list_offences c.loop-node.fold (forest left))
+    sym (append-nil c.loop-node.self-inside.list.items)
+    ∙ ap (λ left. c.loop-node.self-inside.list.items ++ list_offences c.loop-node.fold (forest left))
     (sym (none_left (nodes c.args.procedure.now.inner) c.loop-node.k (sym c.in_default.ensures)))
     ∙ c.loop-node.invariant.made
