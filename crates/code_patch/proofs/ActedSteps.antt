@@ -7,16 +7,11 @@ use Rattle.plcs_code.specs.BlockLimit.{most_instrs}
 use Rattle.code_patch.specs.declared.code_edit.Act.{Act}
 use Rattle.code_patch.specs.CodeEdit.{code_added}
 use Rattle.code_patch.specs.CodeForest.{kept_lengths, PlainCodeNode}
+use Rattle.code_patch.specs.Private.ActedLists.{CanAct, IsActed}
 use Rattle.code_patch.specs.Private.PlainCodeNode.{PlainCodeNodes, code_forest, kept_length, with_code_set, with_kept_inserted, with_kept_removed}
 use Rattle.code_patch.specs.Private.PlainSteps.{after_act, room_acted}
 use Rattle.code_patch.proofs.ActedNodes.{insert_short, numbers_insert, numbers_remove, numbers_set, set_short}
 use Rattle.code_patch.proofs.GivenWay.{forest_insert, forest_remove}
-
--- the list and the lengths after a step, as it makes the nodes in order
-pub record IsActed {W : Type 0} (act : Act W) (k : ℕ) (old new : PlainCodeNodes) (sums numbers : PlainPrefixSums) : Type 0 where
-  pub items : code_forest new.items ≡ after_act k act (code_forest old.items)
-  pub spare : min new.spare numbers.spare ≡ room_acted act (min old.spare sums.spare)
-  pub lengths : numbers.numbers ≡ map kept_length new.items
 
 -- two lists have room for so many more together as one of them, if it has less
 rooms : (a b c d : ℕ) → a ≡ c → b ≡ d → min a b ≡ min c d
@@ -97,3 +92,8 @@ module _ {W : Type 0} (k : ℕ) (node : PlainCodeNode) (old new : PlainCodeNodes
 pub acted_as : {W : Type 0} (step act : Act W) (is : step ≡ act) (k : ℕ) (old new : PlainCodeNodes) (lengths numbers : PlainPrefixSums)
     → IsActed act k old new lengths numbers → IsActed step k old new lengths numbers
 acted_as {W} step act is k old new lengths numbers made = subst (λ (a : Act W). IsActed a k old new lengths numbers) (sym is) made
+
+-- and what can be done by one can be done by the other
+pub can_act_as : {W : Type 0} (step act : Act W) (is : step ≡ act) (k : ℕ) (list : PlainCodeNodes) (sums : PlainPrefixSums)
+    → CanAct step k list sums → CanAct act k list sums
+can_act_as {W} step act is k list sums can = subst (λ (a : Act W). CanAct a k list sums) is can

@@ -1,16 +1,18 @@
 -- What the preparation of an edit costs, node after node.
 use Rattle.std.proofs.Common.{◌≡◌, ℕ, zero, suc, ◌+◌, ◌-◌, ◌<◌, ◌≤◌, Bool, true, false, List, length, Option, Some, None, refl, ap, sym, ◌∙◌, arith, true≢false}
 use Rattle.std.specs.Prelude.{◌&&◌, ◌||◌, if◌then◌else◌, IfSome, drop, is_some, option_and_then, slice_get, sum, take}
-use Rattle.std.specs.Option.{option_map_or, option_to_list}
+use Rattle.std.specs.Option.{option_map_or}
 use Rattle.std.proofs.lemmas.Option.{none-some}
 use Rattle.plcs_base.specs.ListLeft.{left_from, none_left}
 use Rattle.template_tree.specs.Programs.PlainTree.{Forest, Label, PlainNode, forest, nodes}
+use Rattle.plcs_base.specs.PlainCounts.{PlainCounts}
 use Rattle.plcs_code.specs.CodeLaws.{OwnLengthsStay}
+use Rattle.plcs_code.specs.Counts.{EmitsAtMost}
 use Rattle.plcs_code.specs.Gen.{own_length}
 use Rattle.plcs_code.specs.OwnCode.{PlainOwnCode, jumps_around, own_code_by}
-use Rattle.plcs_code.specs.Pieces.{CodeJumps}
 use Rattle.code_patch.specs.CodeEdit.{roomless_code}
 use Rattle.code_patch.specs.CodeForest.{CodeForest, kept_code, kept_lengths, PlainCodeNode, code_nodes}
+use Rattle.code_patch.specs.Private.MadeJumps.{count_jumps}
 use Rattle.code_patch.specs.Private.EditCosts.{child_cost, child_moves, gone_cost, is_put, item_cost, kept_for, list_moves, node_cost, node_moves, nodes_cost, nodes_move, own_cost, visited_cost}
 use Rattle.code_patch.specs.Private.NearCode.{PlainPlan, is_added, is_visited, item_number, kept_number, way_below}
 use Rattle.code_patch.specs.Private.PlainCodeNode.{jumps_length, node_length}
@@ -203,13 +205,16 @@ pub pieces_cost : (plan : PlainPlan) (label : Label) (made moved : Bool) (pieces
 pieces_cost plan label true moved pieces jumps are = omega (arith, are)
 pieces_cost plan label false moved pieces jumps are = omega arith
 
--- and so do the pieces and the jumps, where it is made anew or something becomes of what is inside
-pub own_costs : (plan : PlainPlan) (label : Label) (made moved : Bool) (pieces jumps : ℕ)
-    → pieces + jumps ≡ own_length plan.marks plan.items label → jumps ≤ 2 → (made ≡ false → moved ≡ true)
-    → (if made then pieces else 0) + jumps ≤ own_cost plan made moved label
-own_costs plan label true moved pieces jumps are few other = omega (arith, are)
-own_costs plan label false true pieces jumps are few other = omega (arith, are, few)
-own_costs plan label false false pieces jumps are few other = absurd (true≢false (sym (other refl)))
+-- and so do the pieces and what is emitted behind them: the jumps, unless its own code isn't new and nothing is to be
+-- done
+pub edit_costs : (plan : PlainPlan) (label : Label) (own : Option PlainOwnCode) (made moved : Bool) (steps pieces jumps : ℕ) (u v : PlainCounts)
+    → pieces + jumps ≡ own_length plan.marks plan.items label → jumps ≤ 2 → IfSome own (λ new. made ≡ true) → (moved ≡ false → steps ≡ 0)
+    → (is_some own ≡ false → steps ≡ 0 → EmitsAtMost 0 u v) → EmitsAtMost jumps u v
+    → (n : ℕ) × ((if made then pieces else 0) + n ≤ own_cost plan made moved label) × EmitsAtMost n u v
+edit_costs plan label own true moved steps pieces jumps u v are few is still unchanged counts = (jumps, omega (arith, are), counts)
+edit_costs plan label own false true steps pieces jumps u v are few is still unchanged counts = (jumps, omega (arith, are, few), counts)
+edit_costs plan label None false false steps pieces jumps u v are few is still unchanged counts = (0, omega arith, unchanged refl (still refl))
+edit_costs plan label (Some new) false false steps pieces jumps u v are few is still unchanged counts = absurd (true≢false (sym is))
 
 -- where its own code isn't new and something is to be done, something becomes of what is inside
 pub moved_then : (own : Option PlainOwnCode) (made moved : Bool) (steps : ℕ) → IfSome own (λ new. made ≡ true)
@@ -222,12 +227,6 @@ moved_then (Some new) made moved steps is changed still none = absurd (true≢fa
 pub either_moves : (made moved : Bool) → (made ≡ false → moved ≡ true) → (made || moved) ≡ true
 either_moves true moved other = refl
 either_moves false moved other = other refl
-
--- how many jumps there are
-abbrev pub count_jumps : CodeJumps → ℕ
-count_jumps around =
-    length (option_to_list around.ahead)
-    + (length (option_to_list around.between) + length (option_to_list around.back))
 
 -- the jumps that are made of own code are as many as it has beside the codes inside
 pub jumps_are : (own last : PlainOwnCode) (inner : CodeForest) (first total : ℕ) → last ≡ own → first ≡ sum (take 1 (kept_lengths inner))

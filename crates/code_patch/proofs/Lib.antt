@@ -43,6 +43,7 @@ pub mod ExchangedNodes
 pub mod KeptItems
 pub mod PreparedLists
 pub mod NodeEdits
+pub mod EditedChildren
 pub mod RemadeCode
 -- what an edit leaves of marks, effective items and kept code elsewhere: `prepare`
 pub mod QuietEdits

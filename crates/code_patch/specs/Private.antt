@@ -18,11 +18,15 @@ pub mod OuterNodes
 -- ---- prepared edits in memory, step by step
 pub mod CodeEditCode
 pub mod StepsView
+pub mod MadeJumps
 pub mod StepsFall
 pub mod PlainSteps
+pub mod ActedLists
 -- ---- what a test of touched slots covers
 pub mod CoversTouched
 -- ---- how near kept code is to that after an edit
 pub mod NearCode
 pub mod EditCosts
 pub mod PreparedNodes
+pub mod ListSteps
+pub mod NodeEditBy

@@ -204,7 +204,7 @@ impl<W> CodeNodes<W> {
         requires there { k < length self.old.items }
         ensures { self.new ≡ with_code_set self.old k node }
     {
-        self.list[k] = node;
+        drop(mem::replace(&mut self.list[k], node));
     }
 
     /// Makes room for one more kept node in the list.
@@ -230,7 +230,7 @@ impl<W> CodeNodes<W> {
         requires room { 0 < self.old.spare }
         ensures { self.new ≡ with_kept_inserted self.old k node }
     {
-        if let Err(_) = self.list.insert(k, node) {}
+        drop(self.list.insert(k, node));
     }
 
     /// Takes what is kept of the node of this number out of the list; its room stays.

@@ -70,9 +70,16 @@ impl<W: Work> CodeTree<W> {
         lengths_are_told();
         own_codes_stay_in_slots();
         let root = CodeNode::inside(alloc, &Outer::Program(tree), marks, scope, work)?;
-        let names = Names::of(alloc, tree)?;
-        let homes = homes_of(alloc, &root, tree.slots());
-        Ok(CodeTree { root, names, homes })
+        match Names::of(alloc, tree) {
+            Ok(names) => {
+                let homes = homes_of(alloc, &root, tree.slots());
+                Ok(CodeTree { root, names, homes })
+            }
+            Err(OutOfMemory) => {
+                drop(root);
+                Err(OutOfMemory)
+            }
+        }
     }
 }
 

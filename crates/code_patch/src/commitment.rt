@@ -4,10 +4,9 @@ ghost use Rattle.prefix_sums.specs.PlainPrefixSums.{with_number_set};
 ghost use Rattle.plcs_code.specs.BlockLimit.{most_instrs};
 ghost use Rattle.plcs_code.specs.OwnCode.{no_own_code};
 ghost use Rattle.code_patch.specs.CodeEdit.{code_tree_after, edited_code, room_after};
-ghost use Rattle.code_patch.specs.CodeForest.{kept_lengths};
 ghost use Rattle.code_patch.specs.PreparedEdit.{AreJumps, CanPutInCode, StepsFit};
+ghost use Rattle.code_patch.specs.Private.ActedLists.{CanAct, IsActed};
 ghost use Rattle.code_patch.specs.Private.PlainCodeNode.{code_forest, kept_length, with_code_set};
-ghost use Rattle.code_patch.specs.Private.PlainSteps.{StepFits, room_stepped, stepped};
 ghost use Rattle.code_patch.specs.Private.StepsView.{plain_jumps};
 
 use crate::code_edit::{Act, Mending, Prepared, Step, Steps};
@@ -112,30 +111,27 @@ fn make_steps<W>(inner: &mut CodeNodes<W>, lengths: &mut PrefixSums, steps: Step
 /// Makes one step of a prepared edit in a list of kept nodes with the lengths of their codes.
 #[cycle(make_steps)]
 fn make_step<W>(inner: &mut CodeNodes<W>, lengths: &mut PrefixSums, step: Step<W>)
-    requires lengths { lengths.old.numbers ≡ map kept_length inner.old.items }
-    requires fit { StepFits step (min inner.old.spare lengths.old.spare) (code_forest inner.old.items) }
-    requires short { sum (kept_lengths (stepped step (code_forest inner.old.items))) ≤ most_instrs }
-    ensures items { code_forest inner.new.items ≡ stepped step (code_forest inner.old.items) }
-    ensures spare { min inner.new.spare lengths.new.spare ≡ room_stepped step (min inner.old.spare lengths.old.spare) }
-    ensures lengths { lengths.new.numbers ≡ map kept_length inner.new.items }
+    requires { CanAct step.act step.number inner.old lengths.old }
+    ensures { IsActed step.act step.number inner.old inner.new lengths.old lengths.new }
 {
     let Step { number, act } = step;
     let k = number as usize;
     match act {
-        Act::Mend(mending) => {
-            let node = inner.take(k).mended(mending);
-            put_node(inner, lengths, k, node);
-        }
+        Act::Mend(mending) => mend_node(inner, lengths, k, mending),
         Act::Put(node) => put_node(inner, lengths, k, node),
-        Act::Add(node) => {
-            lengths.insert(k, node.length());
-            inner.insert_within(k, node);
-        }
-        Act::Drop => {
-            inner.remove(k);
-            lengths.remove(k);
-        }
+        Act::Add(node) => add_node(inner, lengths, k, node),
+        Act::Drop => drop_node(inner, lengths, k),
     }
+}
+
+/// Mends the kept node of this number in a list with the lengths of their codes.
+#[cycle(make_steps)]
+fn mend_node<W>(inner: &mut CodeNodes<W>, lengths: &mut PrefixSums, k: usize, mending: Mending<W>)
+    requires { CanAct (Act.Mend mending) k inner.old lengths.old }
+    ensures { IsActed (Act.Mend mending) k inner.old inner.new lengths.old lengths.new }
+{
+    let node = inner.take(k).mended(mending);
+    put_node(inner, lengths, k, node);
 }
 
 /// Puts a kept node in the place of the one of this number in a list with the lengths of their codes.
@@ -148,4 +144,22 @@ fn put_node<W>(inner: &mut CodeNodes<W>, lengths: &mut PrefixSums, k: usize, nod
 {
     lengths.set(k, node.length());
     inner.put(k, node);
+}
+
+/// Puts a kept node before the one of this number in a list with the lengths of their codes.
+fn add_node<W>(inner: &mut CodeNodes<W>, lengths: &mut PrefixSums, k: usize, node: CodeNode<W>)
+    requires { CanAct {W = W} (Act.Add node) k inner.old lengths.old }
+    ensures { IsActed {W = W} (Act.Add node) k inner.old inner.new lengths.old lengths.new }
+{
+    lengths.insert(k, node.length());
+    inner.insert_within(k, node);
+}
+
+/// Takes the kept node of this number out of a list with the lengths of their codes.
+fn drop_node<W>(inner: &mut CodeNodes<W>, lengths: &mut PrefixSums, k: usize)
+    requires { CanAct {W = W} Act.Drop k inner.old lengths.old }
+    ensures { IsActed {W = W} Act.Drop k inner.old inner.new lengths.old lengths.new }
+{
+    drop(inner.remove(k));
+    lengths.remove(k);
 }

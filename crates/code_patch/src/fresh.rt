@@ -1,16 +1,17 @@
 //! What is kept of the code of a node, made anew from the node of the tree.
-ghost use Rattle.std.specs.Prelude.{◌≡◌, ◌+◌, ◌^◌, ◌<◌, ◌≤◌, ◌∷◌, [], IfOk, OnOk, length, sum};
+ghost use Rattle.std.specs.Prelude.{◌≡◌, ◌+◌, ◌-◌, ◌^◌, ◌<◌, ◌≤◌, ◌∷◌, [], IfOk, OnOk, length, sum};
 ghost use Rattle.plcs_code.specs.BlockLimit.{most_instrs};
 ghost use Rattle.plcs_code.specs.Counts.{Emits, EmitsAtMost};
 ghost use Rattle.plcs_code.specs.Gen.{node_lengths};
-ghost use Rattle.plcs_code.specs.OwnCode.{no_own_code};
+ghost use Rattle.plcs_code.specs.OwnCode.{jumps_around, no_own_code};
 ghost use Rattle.template_tree.specs.Programs.Limit.{most_slots};
 ghost use Rattle.template_tree.specs.Programs.Program.{IsSubtree};
 ghost use Rattle.template_tree.specs.Programs.Slots.{count};
 ghost use Rattle.code_patch.specs.CodeEdit.{join_code, roomless_code};
-ghost use Rattle.code_patch.specs.CodeForest.{kept_code, kept_lengths, code_nodes};
+ghost use Rattle.code_patch.specs.CodeForest.{CodeForest, kept_code, kept_lengths, code_nodes};
 ghost use Rattle.code_patch.specs.PreparedEdit.{AreJumps};
 ghost use Rattle.code_patch.specs.Private.JumpRoom.{jump_room};
+ghost use Rattle.code_patch.specs.Private.MadeJumps.{AreMadeJumps, count_jumps};
 ghost use Rattle.code_patch.specs.Private.OuterNodes.{IsOuter, nodes_inside};
 ghost use Rattle.code_patch.specs.Private.PlainCodeNode.{code_forest, jumps_length, kept_length, kept_node, node_length, roomless_code_node};
 ghost use Rattle.code_patch.specs.Private.StepsView.{plain_jumps};
@@ -48,15 +49,22 @@ impl<W: Work> CodeNode<W> {
             (W.counts work.old) (W.counts work.new) }
     {
         lengths_are_told();
-        let own = OwnCode::of(alloc, node, marks, scope, work)?;
-        let inside = CodeNode::inside(alloc, &Outer::Node(node), marks, scope, work)?;
-        let kept = inside.with_own(alloc, own, work)?;
-        Ok(kept)
+        let Ok(own) = OwnCode::of(alloc, node, marks, scope, work) else {
+            return Err(OutOfMemory);
+        };
+        let mut kept = CodeNode::none(alloc);
+        match kept.fill(alloc, &Outer::Node(node), marks, scope, work) {
+            Ok(()) => kept.with_own(alloc, own, work),
+            Err(OutOfMemory) => {
+                drop(own);
+                drop(kept);
+                Err(OutOfMemory)
+            }
+        }
     }
 
     /// What is kept of the codes of the nodes inside the program or a node of it, made anew by these marks and these
     /// effective items, inside a node without own code. Each instruction is emitted once.
-    #[cycle(of)]
     pub(crate) fn inside<M: Marked, D: Scope>(
         alloc: Global,
         outer: &Outer<'_>,
@@ -76,15 +84,51 @@ impl<W: Work> CodeNode<W> {
             (sum (node_lengths (M.marks marks.now) (D.items scope.now) (nodes_inside outer.now)))
             (W.counts work.old) (W.counts work.new) }
     {
-        items_are_nodes();
         let mut kept = CodeNode::none(alloc);
+        match kept.fill(alloc, outer, marks, scope, work) {
+            Ok(()) => Ok(kept),
+            Err(OutOfMemory) => {
+                drop(kept);
+                Err(OutOfMemory)
+            }
+        }
+    }
+
+    /// Puts what is kept of the nodes inside the program or a node of it, made anew by these marks and these effective
+    /// items, inside this node, which has no own code and nothing inside. Each instruction is emitted once.
+    #[cycle(of)]
+    fn fill<M: Marked, D: Scope>(
+        &mut self,
+        alloc: Global,
+        outer: &Outer<'_>,
+        marks: &M,
+        scope: &D,
+        work: &mut W,
+    ) -> Result<(), OutOfMemory>
+        requires own { self.old.own ≡ no_own_code }
+        requires empty { self.old.inner ≡ CodeForest.nil }
+        requires outer { IsOuter outer.now }
+        ensures own { OnOk result (self.new.own ≡ no_own_code) }
+        ensures inner { OnOk result (roomless_code self.new.inner
+            ≡ kept_code (M.marks marks.now) (D.items scope.now) (nodes_inside outer.now)) }
+        ensures short { OnOk result (kept_length self.new ≤ most_instrs) }
+        ensures counted { OnOk result (Emits
+            (sum (node_lengths (M.marks marks.now) (D.items scope.now) (nodes_inside outer.now)))
+            (W.counts work.old) (W.counts work.new)) }
+        ensures counts { EmitsAtMost
+            (sum (node_lengths (M.marks marks.now) (D.items scope.now) (nodes_inside outer.now)))
+            (W.counts work.old) (W.counts work.new) }
+    {
+        items_are_nodes();
         let mut k = 0;
         while let Some(node) = outer.child(k) {
-            let child = CodeNode::of(alloc, node, marks, scope, work)?;
-            kept.push(child)?;
+            let Ok(child) = CodeNode::of(alloc, node, marks, scope, work) else {
+                return Err(OutOfMemory);
+            };
+            self.push(child)?;
             k += 1;
         }
-        Ok(kept)
+        Ok(())
     }
 
     /// What is kept of a node with this own code, inside which is what is kept inside this node. Its jumps are
@@ -95,16 +139,20 @@ impl<W: Work> CodeNode<W> {
         own: OwnCode<W>,
         work: &mut W,
     ) -> Result<CodeNode<W>, OutOfMemory>
-        ensures own { IfOk result (λ kept. kept.own ≡ own) }
-        ensures inner { IfOk result (λ kept. kept.inner ≡ self.inner) }
+        ensures kept { IfOk result (λ kept. kept ≡ record { own = own; spare = self.spare; inner = self.inner }) }
         ensures counted { OnOk result (Emits (jumps_length own (kept_lengths self.inner))
             (W.counts work.old) (W.counts work.new)) }
         ensures counts { EmitsAtMost (jumps_length own (kept_lengths self.inner))
             (W.counts work.old) (W.counts work.new) }
     {
-        let jumps = self.jumps_of(alloc, &own, work)?;
-        let kept = self.completed(own, jumps);
-        Ok(kept)
+        match self.jumps_of(alloc, &own, work) {
+            Ok(jumps) => Ok(self.completed(own, jumps)),
+            Err(OutOfMemory) => {
+                drop(own);
+                drop(self);
+                Err(OutOfMemory)
+            }
+        }
     }
 
     /// The jumps of own code beside what is kept inside this node, which are emitted, unless all together would be too
@@ -123,9 +171,7 @@ impl<W: Work> CodeNode<W> {
     {
         let first = self.length_to(1);
         let total = self.length_inside();
-        let own_length = length_within(own.before().length(), own.behind().length())?;
-        length_within(own_length, total)?;
-        let jumps = own.jumps(alloc, first, total - first, work)?;
+        let jumps = jumps_for(alloc, own, first, total, work)?;
         Ok(jumps)
     }
 }
@@ -137,11 +183,13 @@ impl<W> CodeNode<W> {
         ensures { result ≡ record { own = own; spare = self.spare; inner = self.inner } }
     {
         let CodeNode {
-            own: _,
-            jumps: _,
+            own: no_own,
+            jumps: no_jumps,
             inner,
             lengths,
         } = self;
+        drop(no_own);
+        drop(no_jumps);
         CodeNode {
             own,
             jumps,
@@ -160,10 +208,29 @@ impl<W> CodeNode<W> {
         ensures inner { OnOk result (self.new.inner ≡ join_code self.old.inner (code_forest (node ∷ []))) }
         ensures short { OnOk result (kept_length self.new ≤ most_instrs) }
     {
-        length_within(self.length_inside(), node.length())?;
-        self.make_place()?;
-        self.put_last(node);
-        Ok(())
+        match self.make_place_for(node.length()) {
+            Ok(()) => {
+                self.put_last(node);
+                Ok(())
+            }
+            Err(OutOfMemory) => {
+                drop(node);
+                Err(OutOfMemory)
+            }
+        }
+    }
+
+    /// Makes room for what is kept of one more node inside this node, whose code has this length, unless all together
+    /// would be too long for code.
+    fn make_place_for(&mut self, more: u32) -> Result<(), OutOfMemory>
+        requires few { length (code_nodes self.old.inner) < 2 ^ 32 }
+        ensures own { self.new.own ≡ self.old.own }
+        ensures inner { self.new.inner ≡ self.old.inner }
+        ensures room { OnOk result (0 < self.new.spare) }
+        ensures short { OnOk result (sum (kept_lengths self.old.inner) + more ≤ most_instrs) }
+    {
+        length_within(self.length_inside(), more)?;
+        self.make_place()
     }
 
     /// Makes room for what is kept of one more node inside this node.
@@ -204,4 +271,38 @@ pub(crate) fn length_within(one: u32, other: u32) -> Result<u32, OutOfMemory>
         return Err(OutOfMemory);
     }
     Ok(total)
+}
+
+/// The jumps of own code beside codes inside of which the first has one length, and all together have another. They are
+/// emitted, unless all together would be too long for code.
+pub(crate) fn jumps_for<W: Work>(
+    alloc: Global,
+    own: &OwnCode<W>,
+    first: u32,
+    total: u32,
+    work: &mut W,
+) -> Result<JumpBlocks<W>, OutOfMemory>
+    requires first { first ≤ total }
+    ensures jumps { IfOk result (λ jumps. AreMadeJumps (jumps_around own.now first (total - first)) (plain_jumps jumps)) }
+    ensures short { IfOk result (λ jumps. length own.now.pieces.before + length own.now.pieces.behind + total + jump_room
+        ≤ most_instrs) }
+    ensures counted { OnOk result (Emits (count_jumps (jumps_around own.now first (total - first)))
+        (W.counts work.old) (W.counts work.new)) }
+    ensures counts { EmitsAtMost (count_jumps (jumps_around own.now first (total - first)))
+        (W.counts work.old) (W.counts work.new) }
+{
+    bare_length(own, total)?;
+    let jumps = own.jumps(alloc, first, total - first, work)?;
+    Ok(jumps)
+}
+
+/// How long the code of a node is with this own code but for its jumps, where the codes inside have this length
+/// together, unless it would be too long for code.
+fn bare_length<W>(own: &OwnCode<W>, inside: u32) -> Result<u32, OutOfMemory>
+    ensures length { IfOk result (λ n.
+        n ≡ length own.now.pieces.before + length own.now.pieces.behind + inside) }
+    ensures short { IfOk result (λ n. n + jump_room ≤ most_instrs) }
+{
+    let pieces = length_within(own.before().length(), own.behind().length())?;
+    length_within(pieces, inside)
 }

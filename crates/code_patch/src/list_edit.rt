@@ -7,22 +7,25 @@ ghost use Rattle.template_tree.specs.Programs.Limit.{most_slots};
 ghost use Rattle.template_tree.specs.Programs.Program.{IsSubtree};
 ghost use Rattle.template_tree.specs.Programs.Slots.{count};
 ghost use Rattle.code_patch.specs.CodeEdit.{code_added, code_gives_way, roomless_code};
-ghost use Rattle.code_patch.specs.CodeForest.{CodeForest, kept_code, PlainCodeNode, code_nodes};
+ghost use Rattle.code_patch.specs.CodeForest.{CodeForest, kept_code, kept_lengths, PlainCodeNode, code_nodes};
 ghost use Rattle.code_patch.specs.Private.EditCosts.{child_cost, child_moves, item_cost, list_cost, list_moves, node_cost, node_moves, nodes_cost, nodes_move};
 ghost use Rattle.code_patch.specs.Private.JumpRoom.{jump_room};
+ghost use Rattle.code_patch.specs.Private.ListSteps.{IsExchanged, IsMended};
 ghost use Rattle.code_patch.specs.Private.NearCode.{Near, ends_here, is_remade, item_edited, item_number};
+ghost use Rattle.code_patch.specs.Private.NodeEditBy.{IsEditBy};
 ghost use Rattle.code_patch.specs.Private.OuterNodes.{IsOuter, nodes_inside};
-ghost use Rattle.code_patch.specs.Private.PlainCodeNode.{code_forest, kept_node, node_length, roomless_code_node};
+ghost use Rattle.code_patch.specs.Private.PlainCodeNode.{code_forest, jumps_length, kept_node, node_length, roomless_code_node};
 ghost use Rattle.code_patch.specs.Private.PreparedNodes.{ChildEdited, ChildNear, IsListEdit, IsNodeEdit, KeptStay, MendNear, WayFits, made_by, plain_plan};
 ghost use Rattle.code_patch.specs.Private.StepsView.{step_at};
 
 use crate::code_edit::{Act, Mending, Step, Steps};
 use crate::code_node::CodeNode;
-use crate::fresh::length_within;
+use crate::fresh::{jumps_for, length_within};
 use crate::outer::Outer;
 use crate::plan::{Plan, ends_here, first_number};
 use plcs_base::{Marked, OutOfMemory, Scope, Work};
 use plcs_code::{JumpBlocks, OwnCode, lengths_are_told, own_codes_stay_in_slots};
+use std::alloc::Global;
 use template_tree::{Node, items_are_nodes};
 
 /// What becomes of a list of kept nodes: the steps, and how long the first code is then, and all together.
@@ -76,11 +79,11 @@ impl<W: Work> CodeNode<W> {
         };
         self.edit_item(plan, outer, way, &mut list, work)?;
         if plan.everywhere {
-            self.edit_all(plan, outer, way, &mut list, work)?;
-            return Ok(list);
+            let edited = self.edit_all(plan, outer, way, &mut list, work);
+            return edited.and(Ok(list));
         }
-        self.edit_on_way(plan, outer, way, &mut list, work)?;
-        Ok(list)
+        let edited = self.edit_on_way(plan, outer, way, &mut list, work);
+        edited.and(Ok(list))
     }
 
     /// Notes what becomes of each kept node inside this node.
@@ -163,8 +166,7 @@ impl<W: Work> CodeNode<W> {
         let Some(node) = outer.child(k) else {
             return Ok(());
         };
-        self.edit_child(plan, node, k, way, list, work)?;
-        Ok(())
+        self.edit_child(plan, node, k, way, list, work)
     }
 
     /// Notes that an item comes into the list inside this node, or goes, if the way ends at it here.
@@ -199,14 +201,12 @@ impl<W: Work> CodeNode<W> {
             return Ok(());
         };
         if !plan.adds() {
-            self.drop_child(k, list)?;
-            return Ok(());
+            return self.drop_child(k, list);
         }
         let Some(node) = outer.child(k) else {
             unreachable!()
         };
-        self.add_child(plan, node, k, list, work)?;
-        Ok(())
+        self.add_child(plan, node, k, list, work)
     }
 
     /// Notes what becomes of the kept node inside this node that stands for the node of the tree, which has this
@@ -250,14 +250,10 @@ impl<W: Work> CodeNode<W> {
         if plan.puts_at(below) {
             let fresh = CodeNode::of(plan.alloc, node, plan.marks, plan.scope, work)?;
             let length = fresh.length();
-            list.exchange(k, Act::Put(fresh), child.length(), length)?;
-            return Ok(());
+            return list.exchange(k, Act::Put(fresh), child.length(), length);
         }
-        let Some(edit) = child.node_edit(plan, node, below, work)? else {
-            return Ok(());
-        };
-        list.exchange(k, Act::Mend(edit.mending), child.length(), edit.length)?;
-        Ok(())
+        let edit = child.node_edit(plan, node, below, work)?;
+        list.mend(k, edit, child.length())
     }
 
     /// What becomes of this kept node, which stands for the node of the tree, if something does.
@@ -289,14 +285,47 @@ impl<W: Work> CodeNode<W> {
         lengths_are_told();
         own_codes_stay_in_slots();
         let own = self.new_own(plan, node, way, work)?;
-        let list = self.list_edit(plan, &Outer::Node(node), way, work)?;
+        match self.list_edit(plan, &Outer::Node(node), way, work) {
+            Ok(list) => self.edit_by(plan.alloc, own, list, work),
+            Err(OutOfMemory) => {
+                drop(own);
+                Err(OutOfMemory)
+            }
+        }
+    }
+
+    /// What becomes of this kept node by the own code that is new of it and what becomes of the list inside it, if
+    /// something does.
+    fn edit_by(
+        &self,
+        alloc: Global,
+        own: Option<OwnCode<W>>,
+        list: ListEdit<W>,
+        work: &mut W,
+    ) -> Result<Option<NodeEdit<W>>, OutOfMemory>
+        requires list { IsListEdit list self.now.spare self.now.inner }
+        ensures none { IfOk result (λ edit. IfNone edit ((is_some own ≡ false) × (length list.steps.items ≡ 0))) }
+        ensures some { IfOk result (λ edit. IfSome edit (λ edit. IsEditBy edit own list self.now)) }
+        ensures changed { IfOk result (λ edit. IfSome edit (λ edit.
+            is_some own ≡ false → 0 < length list.steps.items)) }
+        ensures unchanged { is_some own ≡ false → length list.steps.items ≡ 0
+            → EmitsAtMost 0 (W.counts work.old) (W.counts work.new) }
+        ensures counts { EmitsAtMost
+            (jumps_length (unwrap_or own self.now.own) (kept_lengths (made_by list self.now.inner)))
+            (W.counts work.old) (W.counts work.new) }
+    {
         if is_unchanged(&own, &list) {
+            drop(own);
+            drop(list);
             return Ok(None);
         }
         let last = own_after(&own, &self.own);
-        let bare = bare_length(last, list.total)?;
-        let jumps = last.jumps(plan.alloc, list.first, list.total - list.first, work)?;
-        let length = bare + jump_count(&jumps);
+        let Ok(jumps) = jumps_for(alloc, last, list.first, list.total, work) else {
+            drop(own);
+            drop(list);
+            return Err(OutOfMemory);
+        };
+        let length = whole_length(last, list.total, &jumps);
         let mending = Mending {
             own,
             jumps,
@@ -383,12 +412,14 @@ impl<W: Work> CodeNode<W> {
             (node_length (M.marks plan.now.marks.now) (D.items plan.now.scope.now) node.now)
             (W.counts work.old) (W.counts work.new) }
     {
-        let fresh = CodeNode::of(plan.alloc, node, plan.marks, plan.scope, work)?;
-        let length = fresh.length();
-        list.total = length_within(list.total, length)?;
-        list.first = first_length(k, length, list.first);
-        list.push(k, Act::Add(fresh))?;
-        Ok(())
+        match CodeNode::of(plan.alloc, node, plan.marks, plan.scope, work) {
+            Ok(fresh) => {
+                let length = fresh.length();
+                list.exchange(k, Act::Add(fresh), 0, length)?;
+                Ok(())
+            }
+            Err(OutOfMemory) => Err(OutOfMemory),
+        }
     }
 
     /// Notes that the kept node of this number inside this node goes.
@@ -412,17 +443,26 @@ impl<W: Work> CodeNode<W> {
 }
 
 impl<W> ListEdit<W> {
+    /// Notes that the node of this number, whose code had this length, is mended, if something becomes of it.
+    fn mend(&mut self, k: u32, edit: Option<NodeEdit<W>>, old: u32) -> Result<(), OutOfMemory>
+        requires within { old ≤ self.old.total }
+        ensures { OnOk result (IsMended self.old self.new k edit old) }
+    {
+        let Some(edit) = edit else {
+            return Ok(());
+        };
+        let NodeEdit { mending, length } = edit;
+        self.exchange(k, Act::Mend(mending), old, length)
+    }
+
     /// Notes a step by which the node of this number, whose code had the one length, has the other.
     fn exchange(&mut self, k: u32, act: Act<W>, old: u32, new: u32) -> Result<(), OutOfMemory>
         requires within { old ≤ self.old.total }
-        ensures step { OnOk result (self.new.steps.items ≡ self.old.steps.items ++ step_at k act ∷ []) }
-        ensures total { OnOk result (self.new.total ≡ self.old.total - old + new) }
-        ensures first { OnOk result (self.new.first ≡ (if k == 0 then new else self.old.first)) }
-        ensures short { OnOk result (self.new.total ≤ most_instrs) }
+        ensures { OnOk result (IsExchanged self.old self.new k act old new) }
     {
+        self.push(k, act)?;
         self.total = length_within(self.total - old, new)?;
         self.first = first_length(k, new, self.first);
-        self.push(k, act)?;
         Ok(())
     }
 
@@ -468,21 +508,14 @@ fn own_after<'a, W>(own: &'a Option<OwnCode<W>>, was: &'a OwnCode<W>) -> &'a Own
     }
 }
 
-/// How long the code of a node is with this own code but for its jumps, where the codes inside have this length
-/// together, unless it would be too long for code.
-fn bare_length<W>(own: &OwnCode<W>, inside: u32) -> Result<u32, OutOfMemory>
-    ensures length { IfOk result (λ n.
-        n ≡ length own.now.pieces.before + length own.now.pieces.behind + inside) }
-    ensures short { IfOk result (λ n. n + jump_room ≤ most_instrs) }
-{
-    let pieces = length_within(own.before().length(), own.behind().length())?;
-    length_within(pieces, inside)
-}
-
-/// How many jumps there are.
-fn jump_count<W>(jumps: &JumpBlocks<W>) -> u32
+/// How long the code of a node is with this own code and these jumps, where the codes inside have this length
+/// together.
+fn whole_length<W>(own: &OwnCode<W>, inside: u32, jumps: &JumpBlocks<W>) -> u32
     requires few { length jumps.now.ahead + length jumps.now.between + length jumps.now.back ≤ 3 }
-    ensures { result ≡ length jumps.now.ahead + length jumps.now.between + length jumps.now.back }
+    requires short { length own.now.pieces.before + length own.now.pieces.behind + inside + jump_room ≤ most_instrs }
+    ensures { result ≡ length own.now.pieces.before + length own.now.pieces.behind + inside
+        + (length jumps.now.ahead + length jumps.now.between + length jumps.now.back) }
 {
-    jumps.ahead.length() + jumps.between.length() + jumps.back.length()
+    let bare = own.before().length() + own.behind().length() + inside;
+    bare + (jumps.ahead.length() + jumps.between.length() + jumps.back.length())
 }

@@ -1,23 +1,20 @@
 -- What is left of the steps makes of the nodes what all of them made of the first nodes; each step is made in the list
 -- and in the lengths alike.
-use Rattle.std.specs.Prelude.{◌≡◌, ◌≤◌, ◌∷◌, [], ℕ, Some, length, min, slice_get, sum, unwrap_or}
-use Rattle.std.specs.List.{insert}
+use Rattle.std.specs.Prelude.{◌≡◌, ◌∷◌, [], ℕ, Some, min, slice_get, sum, unwrap_or}
 use Rattle.std.proofs.Common.{arith, ap, sym, subst, ◌∙◌, refl}
 use Rattle.std.proofs.lemmas.Option.{same_Some, slice_get_within}
-use Rattle.prefix_sums.specs.PlainPrefixSums.{with_number_inserted}
-use Rattle.plcs_code.specs.BlockLimit.{most_instrs}
 use Rattle.plcs_code.specs.OwnCode.{PlainOwnCode}
 use Rattle.code_patch.specs.declared.code_edit.Act.{Act}
 use Rattle.code_patch.specs.CodeEdit.{CodeEdit, edited_code, mended_node, room_after}
 use Rattle.code_patch.specs.CodeForest.{CodeForest, kept_lengths, PlainCodeNode}
 use Rattle.code_patch.specs.PreparedEdit.{AreJumps, StepsFit}
 use Rattle.code_patch.specs.Private.CodeEditCode.{code_edit_weight}
-use Rattle.code_patch.specs.Private.PlainCodeNode.{code_forest, kept_length, kept_lengths_forest}
+use Rattle.code_patch.specs.Private.PlainCodeNode.{code_forest, kept_lengths_forest}
 use Rattle.code_patch.specs.Private.PlainSteps.{ActFits, after_act, room_acted, room_stepped, stepped}
 use Rattle.code_patch.specs.Private.StepsView.{plain_jumps, step_then}
 use Rattle.code_patch.proofs.ActedNodes.{forest_many, forest_put, mended_ahead, mended_back, mended_between, mended_short, numbers_many, taken_many}
 use Rattle.code_patch.proofs.GivenWay.{forest_get, forest_set}
-use Rattle.code_patch.proofs.ActedSteps.{acted_as, add_fits, add_made, drop_made, set_fits, set_made}
+use Rattle.code_patch.proofs.ActedSteps.{acted_as, can_act_as, set_fits, set_made}
 use Rattle.code_patch.proofs.MadeSteps.{act_next, act_weight, edited_next, fits_next, fits_short, room_next, weight_next}
 use Rattle.code_patch.proofs.+make_steps.Goals as goal
 
@@ -41,7 +38,7 @@ commitment::make_steps-make_step-requires g t c κs within =
     let is : c.loop-step.left ≡ step_then step rest = c.in-Some.ensures in
     let fit = fits_next step rest spare nodes (subst (λ (e : CodeEdit). StepsFit e spare nodes) is c.loop-step.invariant.fit) in
     let less = act_next step rest in
-    (omega (arith, less, ap code_edit_weight is, c.loop-step.invariant.weight), (within, (c.loop-step.invariant.lengths, (fit.1, fits_short rest (room_stepped step spare) (stepped step nodes) fit.2))))
+    (omega (arith, less, ap code_edit_weight is, c.loop-step.invariant.weight), (within, record { lengths = c.loop-step.invariant.lengths; fit = fit.1; short = fits_short rest (room_stepped step spare) (stepped step nodes) fit.2 }))
 
 pub commitment::make_steps-loop-step-smaller : goal.commitment::make_steps-loop-step-smaller
 commitment::make_steps-loop-step-smaller g t c =
@@ -79,73 +76,96 @@ commitment::make_steps-returns-clause-short g t c =
     omega
     (arith, are, fits_short c.loop-step.left (min c.loop-step.inner.spare c.loop-step.lengths.spare) (code_forest items) c.loop-step.invariant.fit)
 
+-- ---- a step by what it does
+
+pub commitment::make_step-mend_node-requires : goal.commitment::make_step-mend_node-requires
+commitment::make_step-mend_node-requires g t c κs within =
+    let act = c.args.step.act in
+    let weight : act_weight act ≡ code_edit_weight c.in-Mend.mending.inner = ap act_weight c.in-Mend.is in
+    (omega (arith, weight), (within, can_act_as act (Act.Mend c.in-Mend.mending) c.in-Mend.is c.args.step.number c.args.inner.now c.args.lengths.now c.requires))
+
+pub commitment::make_step-returns-in-Mend : goal.commitment::make_step-returns-in-Mend
+commitment::make_step-returns-in-Mend g t c =
+    acted_as c.args.step.act (Act.Mend c.in-Mend.mending) c.in-Mend.is c.args.step.number c.args.inner.now c.mend_node.new.inner c.args.lengths.now
+    c.mend_node.new.lengths c.mend_node.ensures
+
+pub commitment::make_step-add_node-requires : goal.commitment::make_step-add_node-requires
+commitment::make_step-add_node-requires g t c =
+    can_act_as c.args.step.act (Act.Add c.in-Add.node) c.in-Add.is c.args.step.number c.args.inner.now c.args.lengths.now c.requires
+
+pub commitment::make_step-returns-in-Add : goal.commitment::make_step-returns-in-Add
+commitment::make_step-returns-in-Add g t c =
+    acted_as c.args.step.act (Act.Add c.in-Add.node) c.in-Add.is c.args.step.number c.args.inner.now c.add_node.new.inner c.args.lengths.now
+    c.add_node.new.lengths c.add_node.ensures
+
+pub commitment::make_step-drop_node-requires : goal.commitment::make_step-drop_node-requires
+commitment::make_step-drop_node-requires g t c =
+    can_act_as c.args.step.act Act.Drop c.in-Drop.is c.args.step.number c.args.inner.now c.args.lengths.now c.requires
+
+pub commitment::make_step-returns-in-Drop : goal.commitment::make_step-returns-in-Drop
+commitment::make_step-returns-in-Drop g t c =
+    acted_as c.args.step.act Act.Drop c.in-Drop.is c.args.step.number c.args.inner.now c.drop_node.new.inner c.args.lengths.now
+    c.drop_node.new.lengths c.drop_node.ensures
+
 -- ---- a node that is mended
 
-pub commitment::make_step-take-requires : goal.commitment::make_step-take-requires
-commitment::make_step-take-requires g t c =
+pub commitment::mend_node-take-requires : goal.commitment::mend_node-take-requires
+commitment::mend_node-take-requires g t c =
     let items = c.args.inner.now.items in
-    let number = c.args.step.number in
-    let fit =
-    subst (λ (act : Act _). ActFits number act (min c.args.inner.now.spare c.args.lengths.now.spare) (code_forest items)) c.in-Mend.is
-    c.requires.fit in
+    let number = c.args.k in
+    let fit = c.requires.fit in
     let there : slice_get items number ≡ Some fit.0 = sym (forest_get items number) ∙ fit.1 in
     record { there = omega (arith, slice_get_within items number fit.0 there) }
 
-pub commitment::make_step-mended-node-requires : goal.commitment::make_step-mended-node-requires
-commitment::make_step-mended-node-requires g t c κs within =
+pub commitment::mend_node-mended-node-requires : goal.commitment::mend_node-mended-node-requires
+commitment::mend_node-mended-node-requires g t c κs within =
     let items = c.args.inner.now.items in
-    let number = c.args.step.number in
-    let mending = c.in-Mend.mending in
-    let fit =
-    subst (λ (act : Act _). ActFits number act (min c.args.inner.now.spare c.args.lengths.now.spare) (code_forest items)) c.in-Mend.is
-    c.requires.fit in
+    let number = c.args.k in
+    let mending = c.args.mending in
+    let fit = c.requires.fit in
     let there : slice_get items number ≡ Some fit.0 = sym (forest_get items number) ∙ fit.1 in
     let same : fit.0 ≡ c.take.result = same_Some fit.0 c.take.result (sym there ∙ sym c.take.ensures.taken) in
-    let weight : act_weight c.args.step.act ≡ code_edit_weight mending.inner = ap act_weight c.in-Mend.is in
-    (omega (arith, weight), (within, (subst (λ (n : PlainCodeNode). StepsFit mending.inner n.spare n.inner) same fit.2, subst (λ (n : PlainCodeNode). AreJumps (unwrap_or mending.own n.own) (edited_code mending.inner n.inner) (plain_jumps mending.jumps)) same fit.3)))
+    (omega arith, (within, (subst (λ (n : PlainCodeNode). StepsFit mending.inner n.spare n.inner) same fit.2, subst (λ (n : PlainCodeNode). AreJumps (unwrap_or mending.own n.own) (edited_code mending.inner n.inner) (plain_jumps mending.jumps)) same fit.3)))
 
-pub commitment::make_step-put_node-requires-clause-there : goal.commitment::make_step-put_node-requires-clause-there
-commitment::make_step-put_node-requires-clause-there g t c =
+pub commitment::mend_node-put_node-requires-clause-there : goal.commitment::mend_node-put_node-requires-clause-there
+commitment::mend_node-put_node-requires-clause-there g t c =
     let items = c.args.inner.now.items in
-    let number = c.args.step.number in
+    let number = c.args.k in
     let many = taken_many number c.args.inner.now c.take.new.self c.mended-node.result (c.take.ensures.rest c.mended-node.result) in
     omega (arith, many, slice_get_within items number c.take.result (sym c.take.ensures.taken))
 
-pub commitment::make_step-put_node-requires-clause-many : goal.commitment::make_step-put_node-requires-clause-many
-commitment::make_step-put_node-requires-clause-many g t c =
-    let number = c.args.step.number in
+pub commitment::mend_node-put_node-requires-clause-many : goal.commitment::mend_node-put_node-requires-clause-many
+commitment::mend_node-put_node-requires-clause-many g t c =
+    let number = c.args.k in
     let many = taken_many number c.args.inner.now c.take.new.self c.mended-node.result (c.take.ensures.rest c.mended-node.result) in
     numbers_many c.args.inner.now.items c.args.lengths.now.numbers number c.requires.lengths ∙ sym many
 
-pub commitment::make_step-put_node-requires-clause-fits : goal.commitment::make_step-put_node-requires-clause-fits
-commitment::make_step-put_node-requires-clause-fits g t c =
+pub commitment::mend_node-put_node-requires-clause-fits : goal.commitment::mend_node-put_node-requires-clause-fits
+commitment::mend_node-put_node-requires-clause-fits g t c =
     let old = c.args.inner.now in
-    let number = c.args.step.number in
-    let mending = c.in-Mend.mending in
+    let number = c.args.k in
+    let mending = c.args.mending in
     let change = mended_node mending.own (edited_code mending.inner) (room_after mending.inner) in
     let is = forest_set change number old.items c.take.result c.mended-node.result (sym c.take.ensures.taken)
     (sym (ap (λ (n : PlainCodeNode). code_forest (n ∷ [])) c.mended-node.ensures)) in
     set_fits (Act.Mend mending) (λ spare. refl) number c.mended-node.result old old c.args.lengths.now c.args.lengths.now c.requires.lengths is
-    (subst (λ (act : Act _). sum (kept_lengths (after_act number act (code_forest old.items))) ≤ most_instrs) c.in-Mend.is c.requires.short)
+    c.requires.short
 
-pub commitment::make_step-returns-in-Mend : goal.commitment::make_step-returns-in-Mend
-commitment::make_step-returns-in-Mend g t c =
+pub commitment::mend_node-returns : goal.commitment::mend_node-returns
+commitment::mend_node-returns g t c =
     let old = c.args.inner.now in
-    let number = c.args.step.number in
-    let mending = c.in-Mend.mending in
+    let number = c.args.k in
+    let mending = c.args.mending in
     let change = mended_node mending.own (edited_code mending.inner) (room_after mending.inner) in
     let is = forest_set change number old.items c.take.result c.mended-node.result (sym c.take.ensures.taken)
     (sym (ap (λ (n : PlainCodeNode). code_forest (n ∷ [])) c.mended-node.ensures)) in
-    let made =
-    acted_as c.args.step.act (Act.Mend mending) c.in-Mend.is number old c.put_node.new.inner c.args.lengths.now c.put_node.new.lengths
-    (set_made (Act.Mend mending) (λ spare. refl) number c.mended-node.result old c.put_node.new.inner c.args.lengths.now c.put_node.new.lengths
-    c.requires.lengths is (c.put_node.ensures.items ∙ c.take.ensures.rest c.mended-node.result) c.put_node.ensures.lengths) in
-    record { items = made.items; spare = made.spare; lengths = made.lengths }
+    set_made (Act.Mend mending) (λ spare. refl) number c.mended-node.result old c.put_node.new.inner c.args.lengths.now c.put_node.new.lengths
+    c.requires.lengths is (c.put_node.ensures.items ∙ c.take.ensures.rest c.mended-node.result) c.put_node.ensures.lengths
 
 -- ---- a node in the place of which another one comes
 
-pub commitment::make_step-put_node-requires-in-Put-clause-there : goal.commitment::make_step-put_node-requires-in-Put-clause-there
-commitment::make_step-put_node-requires-in-Put-clause-there g t c =
+pub commitment::make_step-put_node-requires-clause-there : goal.commitment::make_step-put_node-requires-clause-there
+commitment::make_step-put_node-requires-clause-there g t c =
     let items = c.args.inner.now.items in
     let number = c.args.step.number in
     let fit =
@@ -153,12 +173,12 @@ commitment::make_step-put_node-requires-in-Put-clause-there g t c =
     c.requires.fit in
     omega (arith, fit, forest_many items)
 
-pub commitment::make_step-put_node-requires-in-Put-clause-many : goal.commitment::make_step-put_node-requires-in-Put-clause-many
-commitment::make_step-put_node-requires-in-Put-clause-many g t c =
+pub commitment::make_step-put_node-requires-clause-many : goal.commitment::make_step-put_node-requires-clause-many
+commitment::make_step-put_node-requires-clause-many g t c =
     numbers_many c.args.inner.now.items c.args.lengths.now.numbers c.args.step.number c.requires.lengths
 
-pub commitment::make_step-put_node-requires-in-Put-clause-fits : goal.commitment::make_step-put_node-requires-in-Put-clause-fits
-commitment::make_step-put_node-requires-in-Put-clause-fits g t c =
+pub commitment::make_step-put_node-requires-clause-fits : goal.commitment::make_step-put_node-requires-clause-fits
+commitment::make_step-put_node-requires-clause-fits g t c =
     let old = c.args.inner.now in
     let number = c.args.step.number in
     let node = c.in-Put.node in
@@ -178,81 +198,10 @@ commitment::make_step-returns-in-Put g t c =
     subst (λ (act : Act _). ActFits number act (min old.spare c.args.lengths.now.spare) (code_forest old.items)) c.in-Put.is c.requires.fit in
     let is = forest_put number old.items node (omega (arith, fit, forest_many old.items)) in
     let made =
-    acted_as c.args.step.act (Act.Put node) c.in-Put.is number old c.put_node-in-Put.new.inner c.args.lengths.now c.put_node-in-Put.new.lengths
-    (set_made (Act.Put node) (λ spare. refl) number node old c.put_node-in-Put.new.inner c.args.lengths.now c.put_node-in-Put.new.lengths
-    c.requires.lengths is c.put_node-in-Put.ensures.items c.put_node-in-Put.ensures.lengths) in
-    record { items = made.items; spare = made.spare; lengths = made.lengths }
-
--- ---- a node before which another one comes
-
-pub commitment::make_step-insert-requires : goal.commitment::make_step-insert-requires
-commitment::make_step-insert-requires g t c =
-    let old = c.args.inner.now in
-    let number = c.args.step.number in
-    let node = c.in-Add.node in
-    let fit =
-    subst (λ (act : Act _). ActFits number act (min old.spare c.args.lengths.now.spare) (code_forest old.items)) c.in-Add.is c.requires.fit in
-    let many = numbers_many old.items c.args.lengths.now.numbers number c.requires.lengths in
-    let within : number ≤ length old.items = omega (arith, fit.0, forest_many old.items) in
-    let short =
-    add_fits number node old old c.args.lengths.now c.args.lengths.now c.requires.lengths within
-    (subst (λ (act : Act _). sum (kept_lengths (after_act number act (code_forest old.items))) ≤ most_instrs) c.in-Add.is c.requires.short) in
-    let long : sum (insert c.args.lengths.now.numbers number c.length.result) ≡ sum (insert c.args.lengths.now.numbers number (kept_length node)) =
-    ap (λ (n : ℕ). sum (insert c.args.lengths.now.numbers number n)) c.length.ensures.length in
-    record { there = omega (arith, within, many); room = omega (arith, fit.1); fits = omega (arith, long, short) }
-
-pub commitment::make_step-insert_within-requires : goal.commitment::make_step-insert_within-requires
-commitment::make_step-insert_within-requires g t c =
-    let old = c.args.inner.now in
-    let fit =
-    subst (λ (act : Act _). ActFits c.args.step.number act (min old.spare c.args.lengths.now.spare) (code_forest old.items)) c.in-Add.is
-    c.requires.fit in
-    record { there = omega (arith, fit.0, forest_many old.items); room = omega (arith, fit.1) }
-
-pub commitment::make_step-returns-in-Add : goal.commitment::make_step-returns-in-Add
-commitment::make_step-returns-in-Add g t c =
-    let old = c.args.inner.now in
-    let number = c.args.step.number in
-    let node = c.in-Add.node in
-    let fit =
-    subst (λ (act : Act _). ActFits number act (min old.spare c.args.lengths.now.spare) (code_forest old.items)) c.in-Add.is c.requires.fit in
-    let made =
-    acted_as c.args.step.act (Act.Add node) c.in-Add.is number old c.insert_within.new.self c.args.lengths.now c.insert.new.self
-    (add_made number node old c.insert_within.new.self c.args.lengths.now c.insert.new.self c.requires.lengths
-    (omega (arith, fit.0, forest_many old.items)) c.insert_within.ensures
-    (c.insert.ensures ∙ ap (λ (n : ℕ). with_number_inserted c.args.lengths.now number n) c.length.ensures.length)) in
-    record { items = made.items; spare = made.spare; lengths = made.lengths }
-
--- ---- a node that goes
-
-pub commitment::make_step-remove-requires : goal.commitment::make_step-remove-requires
-commitment::make_step-remove-requires g t c =
-    let old = c.args.inner.now in
-    let fit =
-    subst (λ (act : Act _). ActFits c.args.step.number act (min old.spare c.args.lengths.now.spare) (code_forest old.items)) c.in-Drop.is
-    c.requires.fit in
-    record { there = omega (arith, fit, forest_many old.items) }
-
-pub commitment::make_step-remove-requires-in-Drop : goal.commitment::make_step-remove-requires-in-Drop
-commitment::make_step-remove-requires-in-Drop g t c =
-    let old = c.args.inner.now in
-    let fit =
-    subst (λ (act : Act _). ActFits c.args.step.number act (min old.spare c.args.lengths.now.spare) (code_forest old.items)) c.in-Drop.is
-    c.requires.fit in
-    let many = numbers_many old.items c.args.lengths.now.numbers c.args.step.number c.requires.lengths in
-    record { there = omega (arith, fit, forest_many old.items, many) }
-
-pub commitment::make_step-returns-in-Drop : goal.commitment::make_step-returns-in-Drop
-commitment::make_step-returns-in-Drop g t c =
-    let old = c.args.inner.now in
-    let number = c.args.step.number in
-    let fit =
-    subst (λ (act : Act _). ActFits number act (min old.spare c.args.lengths.now.spare) (code_forest old.items)) c.in-Drop.is c.requires.fit in
-    let made =
-    acted_as c.args.step.act Act.Drop c.in-Drop.is number old c.remove.new.self c.args.lengths.now c.remove-in-Drop.new.self
-    (drop_made number (c.remove.result) old c.remove.new.self c.args.lengths.now c.remove-in-Drop.new.self c.requires.lengths
-    (omega (arith, fit, forest_many old.items)) c.remove.ensures.left c.remove-in-Drop.ensures.left) in
-    record { items = made.items; spare = made.spare; lengths = made.lengths }
+    acted_as c.args.step.act (Act.Put node) c.in-Put.is number old c.put_node.new.inner c.args.lengths.now c.put_node.new.lengths
+    (set_made (Act.Put node) (λ spare. refl) number node old c.put_node.new.inner c.args.lengths.now c.put_node.new.lengths
+    c.requires.lengths is c.put_node.ensures.items c.put_node.ensures.lengths) in
+    made
 
 -- ---- a node mended by value
 

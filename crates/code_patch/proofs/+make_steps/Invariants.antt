@@ -7,13 +7,16 @@ use Rattle.code_patch.proofs.MadeSteps.{act_weight}
 use Rattle.code_patch.proofs.+make_steps.Given as goal
 
 abbrev pub decreases-commitment::make_steps : goal.decreases-commitment::make_steps
-decreases-commitment::make_steps g l = 3 * code_edit_weight l.steps + 2
+decreases-commitment::make_steps g l = 4 * code_edit_weight l.steps + 1
 
 abbrev pub decreases-commitment::make_step : goal.decreases-commitment::make_step
-decreases-commitment::make_step g l = 3 * act_weight l.step.act + 4
+decreases-commitment::make_step g l = 4 * act_weight l.step.act + 4
+
+abbrev pub decreases-commitment::mend_node : goal.decreases-commitment::mend_node
+decreases-commitment::mend_node g l = 4 * code_edit_weight l.mending.inner + 3
 
 abbrev pub decreases-code_node::CodeNode::mended : goal.decreases-code_node::CodeNode::mended
-decreases-code_node::CodeNode::mended g l = 3 * code_edit_weight l.mending.inner + 3
+decreases-code_node::CodeNode::mended g l = 4 * code_edit_weight l.mending.inner + 2
 
 abbrev pub decreases-commitment::make_steps-loop-step : goal.decreases-commitment::make_steps-loop-step
 decreases-commitment::make_steps-loop-step g l = code_edit_weight l.left

@@ -1,30 +1,25 @@
 -- An item comes or goes first; then the nodes are gone through, all or the one on the way, and each becomes what is
 -- kept of it after the edit. A node is mended by its own code, if that is new, its jumps, and what becomes of the list
 -- inside it.
-use Rattle.std.specs.Prelude.{◌≡◌, ◌+◌, ◌-◌, ◌==◌, ◌∷◌, [], IfNone, IfSome, ℕ, List, Option, Some, true, if◌then◌else◌, length, option_map, slice_get, unwrap_or}
-use Rattle.std.specs.Option.{option_to_list}
+use Rattle.std.specs.Prelude.{◌≡◌, ◌+◌, ◌-◌, ◌≤◌, ℕ, List, Option, Some, true, if◌then◌else◌, length, option_map, slice_get, unwrap_or}
 use Rattle.std.proofs.Common.{arith, ap, sym, subst, ◌∙◌, refl, true≢false}
-use Rattle.std.proofs.lemmas.List.Sums.{sum_by-take-le}
 use Rattle.std.proofs.lemmas.Option.{none-some, same_Some, slice_get_within}
 use Rattle.template_tree.specs.Programs.PlainTree.{Forest, forest_nodes, nodes}
-use Rattle.plcs_code.specs.OwnCode.{PlainOwnCode, jumps_around, own_code_by}
-use Rattle.code_patch.specs.CodeEdit.{CodeEdit, edited_code, mended_node, room_after}
-use Rattle.code_patch.specs.CodeForest.{kept_code, kept_lengths, PlainCodeNode, code_nodes}
+use Rattle.plcs_code.specs.OwnCode.{PlainOwnCode, own_code_by}
+use Rattle.code_patch.specs.CodeForest.{kept_code, kept_lengths, PlainCodeNode}
 use Rattle.code_patch.specs.Private.EditCosts.{child_cost, is_put, item_cost, list_cost, list_moves, node_cost, node_moves, nodes_cost}
 use Rattle.code_patch.specs.Private.NearCode.{ends_here, is_remade, is_visited, item_edited, way_below}
 use Rattle.code_patch.specs.Private.OuterNodes.{nodes_inside}
-use Rattle.code_patch.specs.Private.PlainCodeNode.{code_forest, jumps_length, kept_node, node_length, roomless_code_node}
-use Rattle.code_patch.specs.Private.PreparedNodes.{IsNodeEdit, MendNear, WayFits, made_by, plain_plan}
-use Rattle.code_patch.specs.Private.StepsView.{plain_jumps}
-use Rattle.code_patch.specs.declared.code_edit.Act.{Act}
-use Rattle.code_patch.proofs.CostSteps.{cost_at, cost_mend, cost_next, cost_put, cost_visited, count_jumps, either_moves, jumps_are, moved_then, moves_at, moves_mend, moves_put, own_costs, own_parts, pieces_cost, still_item, still_nodes}
+use Rattle.code_patch.specs.Private.PlainCodeNode.{jumps_length, node_length}
+use Rattle.code_patch.specs.Private.PreparedNodes.{MendNear, WayFits, made_by, plain_plan}
+use Rattle.code_patch.proofs.CostSteps.{cost_at, cost_mend, cost_next, cost_put, cost_visited, edit_costs, either_moves, jumps_are, moved_then, moves_at, moves_mend, moves_put, own_parts, pieces_cost, still_item, still_nodes}
 use Rattle.code_patch.proofs.CountedCode.{emits_more, emits_none, emits_then}
+use Rattle.code_patch.proofs.EditedChildren.{mended_child, mended_still, ok_with, put_child, then_ok}
 use Rattle.code_patch.proofs.ExchangedNodes.{within_sum}
-use Rattle.code_patch.proofs.MadeCode.{one_at_most, outer_sound, roomless_kept}
+use Rattle.code_patch.proofs.MadeCode.{outer_sound, roomless_kept}
 use Rattle.code_patch.proofs.NearRooms.{near_roomless}
-use Rattle.code_patch.proofs.NodeEdits.{jumps_then, length_then, own_then, unchanged_node}
-use Rattle.code_patch.proofs.Opened.{own_is}
-use Rattle.code_patch.proofs.PreparedLists.{added_child, all_stay, all_visited, child_near, found_child, gone_child, near_mended, exchanged_list, exchanged_node, list_fresh, node_stays, one_edited, start_many, through_all, through_first, through_next, way_visited}
+use Rattle.code_patch.proofs.NodeEdits.{if_edited, if_none, if_ok, node_edited, own_then, unchanged_node}
+use Rattle.code_patch.proofs.PreparedLists.{added_child, all_stay, all_visited, child_near, found_child, gone_child, near_mended, list_fresh, node_stays, one_edited, start_many, through_all, through_first, through_next, way_visited}
 use Rattle.code_patch.proofs.code_node.CodeNode.+list_edit.Goals as goal
 
 -- ---- the list inside a node
@@ -40,8 +35,8 @@ list_edit-edit_item-requires g t c =
       fresh = c.new.ensures.items;
     }
 
-pub list_edit-edit_all-requires : goal.list_edit-edit_all-requires
-list_edit-edit_all-requires g t c κs within =
+pub list_edit-edit_all-edited-requires : goal.list_edit-edit_all-edited-requires
+list_edit-edit_all-edited-requires g t c κs within =
     let plan = plain_plan (g.M.Marked.marks c.args.plan.now.marks.now) (g.D.Scope.items c.args.plan.now.scope.now) c.args.plan.now in
     let ways = option_map (λ numbers. numbers.now) c.args.way in
     let inner = c.args.self.now.inner in
@@ -50,8 +45,8 @@ list_edit-edit_all-requires g t c κs within =
     let near = near_roomless plan ways 0 (item_edited plan ways inner all) made all (sym c.in_ok-edit_item.ensures.made) c.requires.near in
     (omega arith, (within.0, (within.1.0, (within.1.1, (c.requires.outer, (c.if-plan.true, (c.requires.fits, (c.in_ok-edit_item.ensures.list, (near, c.in_ok-edit_item.ensures.kept)))))))))
 
-pub list_edit-edit_on_way-requires : goal.list_edit-edit_on_way-requires
-list_edit-edit_on_way-requires g t c κs within =
+pub list_edit-edit_on_way-edited-requires : goal.list_edit-edit_on_way-edited-requires
+list_edit-edit_on_way-edited-requires g t c κs within =
     let plan = plain_plan (g.M.Marked.marks c.args.plan.now.marks.now) (g.D.Scope.items c.args.plan.now.scope.now) c.args.plan.now in
     let ways = option_map (λ numbers. numbers.now) c.args.way in
     let inner = c.args.self.now.inner in
@@ -69,15 +64,13 @@ list_edit-returns-in_err-edit_item-clause-counts g t c =
     emits_more (item_cost plan ways all) (list_cost plan ways inner all) (g.W.Work.counts c.args.work.now)
     (g.W.Work.counts c.edit_item.new.work) (omega arith) c.edit_item.ensures.counts
 
-pub list_edit-returns-in_err-edit_all-clause-counts : goal.list_edit-returns-in_err-edit_all-clause-counts
-list_edit-returns-in_err-edit_all-clause-counts g t c =
-    let plan = plain_plan (g.M.Marked.marks c.args.plan.now.marks.now) (g.D.Scope.items c.args.plan.now.scope.now) c.args.plan.now in
-    let ways = option_map (λ numbers. numbers.now) c.args.way in
-    let inner = c.args.self.now.inner in
-    let all = nodes_inside c.args.outer.now in
-    emits_then (item_cost plan ways all) (nodes_cost plan ways inner 0 all) (list_cost plan ways inner all)
-    (g.W.Work.counts c.args.work.now) (g.W.Work.counts c.edit_item.new.work) (g.W.Work.counts c.edit_all.new.work) (omega arith)
-    c.edit_item.ensures.counts c.edit_all.ensures.counts
+pub list_edit-returns-then-plan-clause-list : goal.list_edit-returns-then-plan-clause-list
+list_edit-returns-then-plan-clause-list g t c =
+    ok_with c.edit_all-edited.result c.edit_all-edited.new.list c.and.result _ c.and.ensures (λ so. so) c.edit_all-edited.ensures.list
+
+pub list_edit-returns-then-plan-clause-made : goal.list_edit-returns-then-plan-clause-made
+list_edit-returns-then-plan-clause-made g t c =
+    ok_with c.edit_all-edited.result c.edit_all-edited.new.list c.and.result _ c.and.ensures (λ so. so) c.edit_all-edited.ensures.made
 
 pub list_edit-returns-then-plan-clause-moves : goal.list_edit-returns-then-plan-clause-moves
 list_edit-returns-then-plan-clause-moves g t c =
@@ -85,9 +78,9 @@ list_edit-returns-then-plan-clause-moves g t c =
     let ways = option_map (λ numbers. numbers.now) c.args.way in
     let inner = c.args.self.now.inner in
     let all = nodes_inside c.args.outer.now in
-    λ none.
-    c.in_ok-edit_all.ensures.moves (still_nodes plan ways inner all none)
-    ∙ c.in_ok-edit_item.ensures.moves (still_item plan ways inner all none)
+    ok_with c.edit_all-edited.result c.edit_all-edited.new.list c.and.result _ c.and.ensures
+    (λ so none. so (still_nodes plan ways inner all none) ∙ c.in_ok-edit_item.ensures.moves (still_item plan ways inner all none))
+    c.edit_all-edited.ensures.moves
 
 pub list_edit-returns-then-plan-clause-counts : goal.list_edit-returns-then-plan-clause-counts
 list_edit-returns-then-plan-clause-counts g t c =
@@ -96,18 +89,16 @@ list_edit-returns-then-plan-clause-counts g t c =
     let inner = c.args.self.now.inner in
     let all = nodes_inside c.args.outer.now in
     emits_then (item_cost plan ways all) (nodes_cost plan ways inner 0 all) (list_cost plan ways inner all)
-    (g.W.Work.counts c.args.work.now) (g.W.Work.counts c.edit_item.new.work) (g.W.Work.counts c.edit_all.new.work) (omega arith)
-    c.edit_item.ensures.counts c.edit_all.ensures.counts
+    (g.W.Work.counts c.args.work.now) (g.W.Work.counts c.edit_item.new.work) (g.W.Work.counts c.edit_all-edited.new.work) (omega arith)
+    c.edit_item.ensures.counts c.edit_all-edited.ensures.counts
 
-pub list_edit-returns-in_err-edit_on_way-clause-counts : goal.list_edit-returns-in_err-edit_on_way-clause-counts
-list_edit-returns-in_err-edit_on_way-clause-counts g t c =
-    let plan = plain_plan (g.M.Marked.marks c.args.plan.now.marks.now) (g.D.Scope.items c.args.plan.now.scope.now) c.args.plan.now in
-    let ways = option_map (λ numbers. numbers.now) c.args.way in
-    let inner = c.args.self.now.inner in
-    let all = nodes_inside c.args.outer.now in
-    emits_then (item_cost plan ways all) (nodes_cost plan ways inner 0 all) (list_cost plan ways inner all)
-    (g.W.Work.counts c.args.work.now) (g.W.Work.counts c.edit_item.new.work) (g.W.Work.counts c.edit_on_way.new.work) (omega arith)
-    c.edit_item.ensures.counts c.edit_on_way.ensures.counts
+pub list_edit-returns-clause-list : goal.list_edit-returns-clause-list
+list_edit-returns-clause-list g t c =
+    ok_with c.edit_on_way-edited.result c.edit_on_way-edited.new.list c.and-2.result _ c.and-2.ensures (λ so. so) c.edit_on_way-edited.ensures.list
+
+pub list_edit-returns-clause-made : goal.list_edit-returns-clause-made
+list_edit-returns-clause-made g t c =
+    ok_with c.edit_on_way-edited.result c.edit_on_way-edited.new.list c.and-2.result _ c.and-2.ensures (λ so. so) c.edit_on_way-edited.ensures.made
 
 pub list_edit-returns-clause-moves : goal.list_edit-returns-clause-moves
 list_edit-returns-clause-moves g t c =
@@ -115,9 +106,9 @@ list_edit-returns-clause-moves g t c =
     let ways = option_map (λ numbers. numbers.now) c.args.way in
     let inner = c.args.self.now.inner in
     let all = nodes_inside c.args.outer.now in
-    λ none.
-    c.in_ok-edit_on_way.ensures.moves (still_nodes plan ways inner all none)
-    ∙ c.in_ok-edit_item.ensures.moves (still_item plan ways inner all none)
+    ok_with c.edit_on_way-edited.result c.edit_on_way-edited.new.list c.and-2.result _ c.and-2.ensures
+    (λ so none. so (still_nodes plan ways inner all none) ∙ c.in_ok-edit_item.ensures.moves (still_item plan ways inner all none))
+    c.edit_on_way-edited.ensures.moves
 
 pub list_edit-returns-clause-counts : goal.list_edit-returns-clause-counts
 list_edit-returns-clause-counts g t c =
@@ -126,8 +117,8 @@ list_edit-returns-clause-counts g t c =
     let inner = c.args.self.now.inner in
     let all = nodes_inside c.args.outer.now in
     emits_then (item_cost plan ways all) (nodes_cost plan ways inner 0 all) (list_cost plan ways inner all)
-    (g.W.Work.counts c.args.work.now) (g.W.Work.counts c.edit_item.new.work) (g.W.Work.counts c.edit_on_way.new.work) (omega arith)
-    c.edit_item.ensures.counts c.edit_on_way.ensures.counts
+    (g.W.Work.counts c.args.work.now) (g.W.Work.counts c.edit_item.new.work) (g.W.Work.counts c.edit_on_way-edited.new.work) (omega arith)
+    c.edit_item.ensures.counts c.edit_on_way-edited.ensures.counts
 
 -- ---- all nodes of it
 
@@ -308,19 +299,6 @@ edit_on_way-edit_child-requires g t c κs within =
     let near = child_near plan ways self start all c.requires.near c.requires.kept k node start there c.requires.fits visited refl in
     (omega (arith, fewer), (within.0, (within.1.0, (within.1.1, (c.items_are_nodes.ensures.subtrees all k node there sound.0, (omega (arith, fewer, sound.1), (c.requires.list, near)))))))
 
-pub edit_on_way-returns-in_err-edit_child-clause-counts : goal.edit_on_way-returns-in_err-edit_child-clause-counts
-edit_on_way-returns-in_err-edit_child-clause-counts g t c =
-    let plan = plain_plan (g.M.Marked.marks c.args.plan.now.marks.now) (g.D.Scope.items c.args.plan.now.scope.now) c.args.plan.now in
-    let ways = option_map (λ numbers. numbers.now) c.args.way in
-    let inner = c.args.self.now.inner in
-    let all = nodes_inside c.args.outer.now in
-    let node = c.in-Some-child.node.now in
-    let k = c.in-Some.k in
-    let there : slice_get (nodes all) k ≡ Some node = sym c.in-Some-child.ensures in
-    let visited : is_visited plan ways k ≡ true = way_visited plan ways k (sym c.in-Some.ensures) in
-    emits_more (child_cost plan ways inner k node) (nodes_cost plan ways inner 0 all) (g.W.Work.counts c.args.work.now)
-    (g.W.Work.counts c.edit_child.new.work) (cost_at plan ways inner all k node there visited) c.edit_child.ensures.counts
-
 pub edit_on_way-returns-clause-moves : goal.edit_on_way-returns-clause-moves
 edit_on_way-returns-clause-moves g t c =
     let plan = plain_plan (g.M.Marked.marks c.args.plan.now.marks.now) (g.D.Scope.items c.args.plan.now.scope.now) c.args.plan.now in
@@ -331,7 +309,7 @@ edit_on_way-returns-clause-moves g t c =
     let k = c.in-Some.k in
     let there : slice_get (nodes all) k ≡ Some node = sym c.in-Some-child.ensures in
     let visited : is_visited plan ways k ≡ true = way_visited plan ways k (sym c.in-Some.ensures) in
-    λ none. c.in_ok-edit_child.ensures.moves (moves_at plan ways inner all k node there visited none)
+    then_ok c.edit_child.result (λ still none. still (moves_at plan ways inner all k node there visited none)) c.edit_child.ensures.moves
 
 pub edit_on_way-returns-clause-counts : goal.edit_on_way-returns-clause-counts
 edit_on_way-returns-clause-counts g t c =
@@ -353,8 +331,10 @@ edit_on_way-returns-clause-made g t c =
     let self = c.args.self.now in
     let all = nodes_inside c.args.outer.now in
     let node = c.in-Some-child.node.now in
-    one_edited plan ways self (made_by c.args.list.now self.inner) all c.requires.near c.requires.kept c.requires.visited c.in-Some.k node
-    (made_by c.edit_child.new.list self.inner) (sym c.in-Some-child.ensures) (sym c.in-Some.ensures) c.in_ok-edit_child.ensures.edited
+    then_ok c.edit_child.result
+    (one_edited plan ways self (made_by c.args.list.now self.inner) all c.requires.near c.requires.kept c.requires.visited c.in-Some.k node
+    (made_by c.edit_child.new.list self.inner) (sym c.in-Some-child.ensures) (sym c.in-Some.ensures))
+    c.edit_child.ensures.edited
 
 -- ---- a node inside
 
@@ -385,75 +365,92 @@ pub edit_child-exchange-requires : goal.edit_child-exchange-requires
 edit_child-exchange-requires g t c =
     let plan = plain_plan (g.M.Marked.marks c.args.plan.now.marks.now) (g.D.Scope.items c.args.plan.now.scope.now) c.args.plan.now in
     let ways = option_map (λ numbers. numbers.now) c.args.way in
-    let made = made_by c.args.list.now c.args.self.now.inner in
-    let near = c.requires.near in
+    let self = c.args.self.now in
+    let made = made_by c.args.list.now self.inner in
+    let node = c.args.node.now in
+    let k = c.args.k in
     let child = c.in-Some-child.child.now in
-    let there = found_child plan ways c.args.k c.args.self.now made c.args.node.now near c.in-Some.number child (sym c.in-Some.ensures) (sym c.in-Some-child.ensures) in
-    record { within = omega (arith, within_sum made c.args.k child there, c.requires.list.total, c.length.ensures.length) }
+    let there = found_child plan ways k self made node c.requires.near c.in-Some.number child (sym c.in-Some.ensures) (sym c.in-Some-child.ensures) in
+    record { within = omega (arith, within_sum made k child there, c.requires.list.total, c.length.ensures.length) }
 
 pub edit_child-returns-in_err-fresh-clause-counts : goal.edit_child-returns-in_err-fresh-clause-counts
 edit_child-returns-in_err-fresh-clause-counts g t c =
     let plan = plain_plan (g.M.Marked.marks c.args.plan.now.marks.now) (g.D.Scope.items c.args.plan.now.scope.now) c.args.plan.now in
     let ways = option_map (λ numbers. numbers.now) c.args.way in
-    let k = c.args.k in
-    let number = c.in-Some.number in
-    let child = c.in-Some-child.child.now in
-    let inner = c.args.self.now.inner in
+    let self = c.args.self.now in
+    let made = made_by c.args.list.now self.inner in
     let node = c.args.node.now in
-    let is = sym c.in-Some.ensures in
-    let found = sym c.in-Some-child.ensures in
-    emits_more (node_length plan.marks plan.items node) (child_cost plan ways inner k node) (g.W.Work.counts c.args.work.now)
-    (g.W.Work.counts c.of.new.work) (omega (arith, cost_put plan ways inner k node number child is found (ap (λ (w : Option (List ℕ)). is_put plan w) (sym c.way_below-below.ensures) ∙ sym c.puts_at.ensures ∙ c.if-puts_at.true))) c.of.ensures.counts
-
-pub edit_child-returns-in_err-exchange-clause-counts : goal.edit_child-returns-in_err-exchange-clause-counts
-edit_child-returns-in_err-exchange-clause-counts g t c =
-    let plan = plain_plan (g.M.Marked.marks c.args.plan.now.marks.now) (g.D.Scope.items c.args.plan.now.scope.now) c.args.plan.now in
-    let ways = option_map (λ numbers. numbers.now) c.args.way in
     let k = c.args.k in
-    let number = c.in-Some.number in
     let child = c.in-Some-child.child.now in
-    let inner = c.args.self.now.inner in
-    let node = c.args.node.now in
-    let is = sym c.in-Some.ensures in
-    let found = sym c.in-Some-child.ensures in
-    emits_more (node_length plan.marks plan.items node) (child_cost plan ways inner k node) (g.W.Work.counts c.args.work.now)
-    (g.W.Work.counts c.of.new.work) (omega (arith, cost_put plan ways inner k node number child is found (ap (λ (w : Option (List ℕ)). is_put plan w) (sym c.way_below-below.ensures) ∙ sym c.puts_at.ensures ∙ c.if-puts_at.true))) c.of.ensures.counts
+    let put = ap (λ (w : Option (List ℕ)). is_put plan w) (sym c.way_below-below.ensures) ∙ sym c.puts_at.ensures ∙ c.if-puts_at.true in
+    emits_more (node_length plan.marks plan.items node) (child_cost plan ways self.inner k node) (g.W.Work.counts c.args.work.now)
+    (g.W.Work.counts c.of.new.work)
+    (omega (arith, cost_put plan ways self.inner k node c.in-Some.number child (sym c.in-Some.ensures) (sym c.in-Some-child.ensures) put)) c.of.ensures.counts
 
-pub edit_child-returns-then-puts_at : goal.edit_child-returns-then-puts_at
-edit_child-returns-then-puts_at g t c =
+pub edit_child-returns-then-puts_at-clause-list : goal.edit_child-returns-then-puts_at-clause-list
+edit_child-returns-then-puts_at-clause-list g t c =
     let plan = plain_plan (g.M.Marked.marks c.args.plan.now.marks.now) (g.D.Scope.items c.args.plan.now.scope.now) c.args.plan.now in
     let ways = option_map (λ numbers. numbers.now) c.args.way in
     let self = c.args.self.now in
     let made = made_by c.args.list.now self.inner in
-    let near = c.requires.near in
+    let node = c.args.node.now in
     let k = c.args.k in
     let child = c.in-Some-child.child.now in
-    let there = found_child plan ways k self made c.args.node.now near c.in-Some.number child (sym c.in-Some.ensures) (sym c.in-Some-child.ensures) in
-    let fresh = c.in_ok-fresh.fresh in
-    let old = c.args.list.now in
-    let new = c.exchange.new.self in
-    let is = within_sum made k child there in
-    let step = c.in_ok-exchange.ensures in
+    let there = found_child plan ways k self made node c.requires.near c.in-Some.number child (sym c.in-Some.ensures) (sym c.in-Some-child.ensures) in
+    let edited =
+    then_ok c.exchange.result
+    (put_child plan c.args.list.now c.exchange.new.self self.spare self.inner k child node c.length.result c.length.ensures.length c.requires.list
+    there c.in_ok-fresh.fresh c.length-length.result c.length-length.ensures.length c.in_ok-fresh.ensures.kept)
+    c.exchange.ensures in
+    then_ok c.exchange.result (λ both. both.0) edited
+
+pub edit_child-returns-then-puts_at-clause-edited : goal.edit_child-returns-then-puts_at-clause-edited
+edit_child-returns-then-puts_at-clause-edited g t c =
+    let plan = plain_plan (g.M.Marked.marks c.args.plan.now.marks.now) (g.D.Scope.items c.args.plan.now.scope.now) c.args.plan.now in
+    let ways = option_map (λ numbers. numbers.now) c.args.way in
+    let self = c.args.self.now in
+    let made = made_by c.args.list.now self.inner in
+    let node = c.args.node.now in
+    let k = c.args.k in
+    let child = c.in-Some-child.child.now in
+    let there = found_child plan ways k self made node c.requires.near c.in-Some.number child (sym c.in-Some.ensures) (sym c.in-Some-child.ensures) in
+    let edited =
+    then_ok c.exchange.result
+    (put_child plan c.args.list.now c.exchange.new.self self.spare self.inner k child node c.length.result c.length.ensures.length c.requires.list
+    there c.in_ok-fresh.fresh c.length-length.result c.length-length.ensures.length c.in_ok-fresh.ensures.kept)
+    c.exchange.ensures in
+    then_ok c.exchange.result (λ both. both.1) edited
+
+pub edit_child-returns-then-puts_at-clause-moves : goal.edit_child-returns-then-puts_at-clause-moves
+edit_child-returns-then-puts_at-clause-moves g t c =
+    let plan = plain_plan (g.M.Marked.marks c.args.plan.now.marks.now) (g.D.Scope.items c.args.plan.now.scope.now) c.args.plan.now in
+    let ways = option_map (λ numbers. numbers.now) c.args.way in
+    let self = c.args.self.now in
+    let made = made_by c.args.list.now self.inner in
+    let node = c.args.node.now in
+    let k = c.args.k in
+    let child = c.in-Some-child.child.now in
     let put = ap (λ (w : Option (List ℕ)). is_put plan w) (sym c.way_below-below.ensures) ∙ sym c.puts_at.ensures ∙ c.if-puts_at.true in
-    record {
-      list =
-          exchanged_list old new self.spare self.inner k (Act.Put fresh) child fresh (λ was spare within. code_forest (fresh ∷ []))
-          (λ nodes. refl) refl step.step there c.requires.list (slice_get_within (code_nodes made) k child there)
-          (omega (arith, step.total, is, c.requires.list.total, c.length-length.ensures.length, c.length.ensures.length))
-          (step.first ∙ ap (λ (n : ℕ). if k == 0 then n else old.first) c.length-length.ensures.length) step.short;
-      edited =
-          exchanged_node old new self.spare self.inner k (Act.Put fresh) child fresh (λ was spare within. code_forest (fresh ∷ []))
-          (λ nodes. refl) refl step.step there plan c.args.node.now c.in_ok-fresh.ensures.kept;
-      moves = λ none.
-          let all = moves_put plan ways self.inner k c.args.node.now c.in-Some.number child (sym c.in-Some.ensures) (sym c.in-Some-child.ensures) put in
-          absurd (true≢false (sym all ∙ none));
-      counts =
-          emits_more (node_length plan.marks plan.items c.args.node.now) (child_cost plan ways self.inner k c.args.node.now)
-          (g.W.Work.counts c.args.work.now) (g.W.Work.counts c.of.new.work)
-          (omega
-          (arith, cost_put plan ways self.inner k c.args.node.now c.in-Some.number child (sym c.in-Some.ensures) (sym c.in-Some-child.ensures) put))
-          c.of.ensures.counts;
-    }
+    then_ok c.exchange.result
+    (λ step none.
+    absurd
+    (true≢false
+    (sym (moves_put plan ways self.inner k node c.in-Some.number child (sym c.in-Some.ensures) (sym c.in-Some-child.ensures) put) ∙ none)))
+    c.exchange.ensures
+
+pub edit_child-returns-then-puts_at-clause-counts : goal.edit_child-returns-then-puts_at-clause-counts
+edit_child-returns-then-puts_at-clause-counts g t c =
+    let plan = plain_plan (g.M.Marked.marks c.args.plan.now.marks.now) (g.D.Scope.items c.args.plan.now.scope.now) c.args.plan.now in
+    let ways = option_map (λ numbers. numbers.now) c.args.way in
+    let self = c.args.self.now in
+    let made = made_by c.args.list.now self.inner in
+    let node = c.args.node.now in
+    let k = c.args.k in
+    let child = c.in-Some-child.child.now in
+    let put = ap (λ (w : Option (List ℕ)). is_put plan w) (sym c.way_below-below.ensures) ∙ sym c.puts_at.ensures ∙ c.if-puts_at.true in
+    emits_more (node_length plan.marks plan.items node) (child_cost plan ways self.inner k node) (g.W.Work.counts c.args.work.now)
+    (g.W.Work.counts c.of.new.work)
+    (omega (arith, cost_put plan ways self.inner k node c.in-Some.number child (sym c.in-Some.ensures) (sym c.in-Some-child.ensures) put)) c.of.ensures.counts
 
 pub edit_child-node_edit-requires : goal.edit_child-node_edit-requires
 edit_child-node_edit-requires g t c κs within =
@@ -471,71 +468,25 @@ edit_child-node_edit-requires g t c κs within =
     let mend : MendNear plan below near.0 node = near_mended plan below near.0 node gone.1.0 (ap (λ (w : Option (List ℕ)). is_put plan w) (sym c.way_below-below.ensures) ∙ sym c.puts_at.ensures ∙ c.if-puts_at.false) in
     (omega arith, (within.0, (within.1.0, (within.1.1, (c.requires.subtree, (c.requires.few, (subst (λ (w : Option (List ℕ)). WayFits plan.what w child node.inner) is (subst (λ (n : PlainCodeNode). WayFits plan.what below n node.inner) same gone.1.1), subst (λ (w : Option (List ℕ)). MendNear plan w child node) is (subst (λ (n : PlainCodeNode). MendNear plan below n node) same mend))))))))
 
-pub edit_child-returns-in_default-2 : goal.edit_child-returns-in_default-2
-edit_child-returns-in_default-2 g t c =
-    let plan = plain_plan (g.M.Marked.marks c.args.plan.now.marks.now) (g.D.Scope.items c.args.plan.now.scope.now) c.args.plan.now in
-    let ways = option_map (λ numbers. numbers.now) c.args.way in
-    let self = c.args.self.now in
-    let made = made_by c.args.list.now self.inner in
-    let node = c.args.node.now in
-    let k = c.args.k in
-    let child = c.in-Some-child.child.now in
-    let there = found_child plan ways k self made node c.requires.near c.in-Some.number child (sym c.in-Some.ensures) (sym c.in-Some-child.ensures) in
-    let mend =
-    cost_mend plan ways self.inner k node c.in-Some.number child (sym c.in-Some.ensures) (sym c.in-Some-child.ensures)
-    (ap (λ (w : Option (List ℕ)). is_put plan w) (sym c.way_below-below.ensures) ∙ sym c.puts_at.ensures ∙ c.if-puts_at.false) in
-    record {
-      list = c.requires.list;
-      edited =
-          node_stays plan k made child node there
-          (subst (λ o. IfNone o (roomless_code_node child ≡ kept_node plan.marks plan.items node)) c.in_default-2.is c.in_ok-edit.ensures.none);
-      moves = λ none. refl;
-      counts =
-          emits_more (node_cost plan (option_map (λ numbers. numbers.now) c.way_below-below.result) child node) (child_cost plan ways self.inner k node)
-          (g.W.Work.counts c.args.work.now) (g.W.Work.counts c.node_edit.new.work) (omega (arith, mend, ap (λ (w : Option (List ℕ)). node_cost plan w child node) c.way_below-below.ensures)) c.node_edit.ensures.counts;
-    }
-
 pub edit_child-returns-in_err-edit-clause-counts : goal.edit_child-returns-in_err-edit-clause-counts
 edit_child-returns-in_err-edit-clause-counts g t c =
     let plan = plain_plan (g.M.Marked.marks c.args.plan.now.marks.now) (g.D.Scope.items c.args.plan.now.scope.now) c.args.plan.now in
     let ways = option_map (λ numbers. numbers.now) c.args.way in
-    let k = c.args.k in
-    let number = c.in-Some.number in
-    let child = c.in-Some-child.child.now in
-    let inner = c.args.self.now.inner in
+    let self = c.args.self.now in
+    let made = made_by c.args.list.now self.inner in
     let node = c.args.node.now in
-    let is = sym c.in-Some.ensures in
-    let found = sym c.in-Some-child.ensures in
-    emits_more (node_cost plan (option_map (λ numbers. numbers.now) c.way_below-below.result) child node) (child_cost plan ways inner k node) (g.W.Work.counts c.args.work.now)
-    (g.W.Work.counts c.node_edit.new.work) (omega (arith, ap (λ (w : Option (List ℕ)). node_cost plan w child node) c.way_below-below.ensures, cost_mend plan ways inner k node number child is found (ap (λ (w : Option (List ℕ)). is_put plan w) (sym c.way_below-below.ensures) ∙ sym c.puts_at.ensures ∙ c.if-puts_at.false))) c.node_edit.ensures.counts
-
-pub edit_child-returns-in_err-exchange-2-clause-counts : goal.edit_child-returns-in_err-exchange-2-clause-counts
-edit_child-returns-in_err-exchange-2-clause-counts g t c =
-    let plan = plain_plan (g.M.Marked.marks c.args.plan.now.marks.now) (g.D.Scope.items c.args.plan.now.scope.now) c.args.plan.now in
-    let ways = option_map (λ numbers. numbers.now) c.args.way in
     let k = c.args.k in
-    let number = c.in-Some.number in
     let child = c.in-Some-child.child.now in
-    let inner = c.args.self.now.inner in
-    let node = c.args.node.now in
-    let is = sym c.in-Some.ensures in
-    let found = sym c.in-Some-child.ensures in
-    emits_more (node_cost plan (option_map (λ numbers. numbers.now) c.way_below-below.result) child node) (child_cost plan ways inner k node) (g.W.Work.counts c.args.work.now)
-    (g.W.Work.counts c.node_edit.new.work) (omega (arith, ap (λ (w : Option (List ℕ)). node_cost plan w child node) c.way_below-below.ensures, cost_mend plan ways inner k node number child is found (ap (λ (w : Option (List ℕ)). is_put plan w) (sym c.way_below-below.ensures) ∙ sym c.puts_at.ensures ∙ c.if-puts_at.false))) c.node_edit.ensures.counts
+    let below = option_map (λ numbers. numbers.now) c.way_below-below.result in
+    let mends = ap (λ (w : Option (List ℕ)). is_put plan w) (sym c.way_below-below.ensures) ∙ sym c.puts_at.ensures ∙ c.if-puts_at.false in
+    emits_more (node_cost plan below child node) (child_cost plan ways self.inner k node) (g.W.Work.counts c.args.work.now)
+    (g.W.Work.counts c.node_edit.new.work)
+    (omega
+    (arith, ap (λ (w : Option (List ℕ)). node_cost plan w child node) c.way_below-below.ensures, cost_mend plan ways self.inner k node c.in-Some.number child (sym c.in-Some.ensures) (sym c.in-Some-child.ensures) mends))
+    c.node_edit.ensures.counts
 
-pub edit_child-exchange-requires-2 : goal.edit_child-exchange-requires-2
-edit_child-exchange-requires-2 g t c =
-    let plan = plain_plan (g.M.Marked.marks c.args.plan.now.marks.now) (g.D.Scope.items c.args.plan.now.scope.now) c.args.plan.now in
-    let ways = option_map (λ numbers. numbers.now) c.args.way in
-    let made = made_by c.args.list.now c.args.self.now.inner in
-    let child = c.in-Some-child.child.now in
-    let there =
-    found_child plan ways c.args.k c.args.self.now made c.args.node.now c.requires.near c.in-Some.number child (sym c.in-Some.ensures)
-    (sym c.in-Some-child.ensures) in
-    record { within = omega (arith, within_sum made c.args.k child there, c.requires.list.total, c.length-2.ensures.length) }
-
-pub edit_child-returns : goal.edit_child-returns
-edit_child-returns g t c =
+pub edit_child-mend-requires : goal.edit_child-mend-requires
+edit_child-mend-requires g t c =
     let plan = plain_plan (g.M.Marked.marks c.args.plan.now.marks.now) (g.D.Scope.items c.args.plan.now.scope.now) c.args.plan.now in
     let ways = option_map (λ numbers. numbers.now) c.args.way in
     let self = c.args.self.now in
@@ -544,43 +495,77 @@ edit_child-returns g t c =
     let k = c.args.k in
     let child = c.in-Some-child.child.now in
     let there = found_child plan ways k self made node c.requires.near c.in-Some.number child (sym c.in-Some.ensures) (sym c.in-Some-child.ensures) in
-    let edit = c.in-Some-2.edit in
-    let mending = edit.mending in
-    let is : IsNodeEdit edit plan child node = subst (λ o. IfSome o (λ e. IsNodeEdit e plan child node)) c.in-Some-2.is c.in_ok-edit.ensures.some in
-    let gone : node_moves plan (option_map (λ numbers. numbers.now) c.way_below-below.result) child node ≡ true =
-    subst (λ o. IfSome o (λ e. node_moves plan (option_map (λ numbers. numbers.now) c.way_below-below.result) child node ≡ true))
-    c.in-Some-2.is c.in_ok-edit.ensures.moves in
-    let old = c.args.list.now in
-    let new = c.exchange-2.new.self in
-    let step = c.in_ok-exchange-2.ensures in
-    let within = within_sum made k child there in
-    let change = mended_node mending.own (edited_code mending.inner) (room_after mending.inner) in
-    let other : PlainCodeNode =
-    record {
-      own = unwrap_or mending.own child.own;
-      spare = room_after mending.inner child.spare;
-      inner = edited_code mending.inner child.inner;
-    } in
+    record { within = omega (arith, within_sum made k child there, c.requires.list.total, c.length-2.ensures.length) }
+
+pub edit_child-returns-clause-list : goal.edit_child-returns-clause-list
+edit_child-returns-clause-list g t c =
+    let plan = plain_plan (g.M.Marked.marks c.args.plan.now.marks.now) (g.D.Scope.items c.args.plan.now.scope.now) c.args.plan.now in
+    let ways = option_map (λ numbers. numbers.now) c.args.way in
+    let self = c.args.self.now in
+    let made = made_by c.args.list.now self.inner in
+    let node = c.args.node.now in
+    let k = c.args.k in
+    let child = c.in-Some-child.child.now in
+    let there = found_child plan ways k self made node c.requires.near c.in-Some.number child (sym c.in-Some.ensures) (sym c.in-Some-child.ensures) in
+    let edited =
+    then_ok c.mend.result
+    (mended_child plan c.args.list.now c.mend.new.self self.spare self.inner k child node c.length-2.result c.length-2.ensures.length c.requires.list
+    there c.in_ok-edit.edit c.in_ok-edit.ensures.none c.in_ok-edit.ensures.some)
+    c.mend.ensures in
+    then_ok c.mend.result (λ both. both.0) edited
+
+pub edit_child-returns-clause-edited : goal.edit_child-returns-clause-edited
+edit_child-returns-clause-edited g t c =
+    let plan = plain_plan (g.M.Marked.marks c.args.plan.now.marks.now) (g.D.Scope.items c.args.plan.now.scope.now) c.args.plan.now in
+    let ways = option_map (λ numbers. numbers.now) c.args.way in
+    let self = c.args.self.now in
+    let made = made_by c.args.list.now self.inner in
+    let node = c.args.node.now in
+    let k = c.args.k in
+    let child = c.in-Some-child.child.now in
+    let there = found_child plan ways k self made node c.requires.near c.in-Some.number child (sym c.in-Some.ensures) (sym c.in-Some-child.ensures) in
+    let edited =
+    then_ok c.mend.result
+    (mended_child plan c.args.list.now c.mend.new.self self.spare self.inner k child node c.length-2.result c.length-2.ensures.length c.requires.list
+    there c.in_ok-edit.edit c.in_ok-edit.ensures.none c.in_ok-edit.ensures.some)
+    c.mend.ensures in
+    then_ok c.mend.result (λ both. both.1) edited
+
+pub edit_child-returns-clause-moves : goal.edit_child-returns-clause-moves
+edit_child-returns-clause-moves g t c =
+    let plan = plain_plan (g.M.Marked.marks c.args.plan.now.marks.now) (g.D.Scope.items c.args.plan.now.scope.now) c.args.plan.now in
+    let ways = option_map (λ numbers. numbers.now) c.args.way in
+    let self = c.args.self.now in
+    let made = made_by c.args.list.now self.inner in
+    let node = c.args.node.now in
+    let k = c.args.k in
+    let child = c.in-Some-child.child.now in
+    let below = option_map (λ numbers. numbers.now) c.way_below-below.result in
     let mends = ap (λ (w : Option (List ℕ)). is_put plan w) (sym c.way_below-below.ensures) ∙ sym c.puts_at.ensures ∙ c.if-puts_at.false in
-    record {
-      list =
-          exchanged_list old new self.spare self.inner k (Act.Mend mending) child other change (λ nodes. refl) refl step.step there
-          c.requires.list (child, there, is.fit, is.jumps)
-          (omega (arith, step.total, within, c.requires.list.total, is.length, c.length-2.ensures.length))
-          (step.first ∙ ap (λ (n : ℕ). if k == 0 then n else old.first) is.length) step.short;
-      edited =
-          exchanged_node old new self.spare self.inner k (Act.Mend mending) child other change (λ nodes. refl) refl step.step there plan
-          node (λ i. record { own = is.own i; spare = 0; inner = is.inner i });
-      moves = λ none.
-          let all = moves_mend plan ways self.inner k node c.in-Some.number child (sym c.in-Some.ensures) (sym c.in-Some-child.ensures) mends in
-          absurd (true≢false (sym (all ∙ ap (λ (w : Option (List ℕ)). node_moves plan w child node) (sym c.way_below-below.ensures) ∙ gone) ∙ none));
-      counts =
-          emits_more (node_cost plan (option_map (λ numbers. numbers.now) c.way_below-below.result) child node) (child_cost plan ways self.inner k node)
-          (g.W.Work.counts c.args.work.now) (g.W.Work.counts c.node_edit.new.work)
-          (omega
-          (arith, ap (λ (w : Option (List ℕ)). node_cost plan w child node) c.way_below-below.ensures, cost_mend plan ways self.inner k node c.in-Some.number child (sym c.in-Some.ensures) (sym c.in-Some-child.ensures) mends))
-          c.node_edit.ensures.counts;
-    }
+    let all = moves_mend plan ways self.inner k node c.in-Some.number child (sym c.in-Some.ensures) (sym c.in-Some-child.ensures) mends in
+    let same = ap (λ (w : Option (List ℕ)). node_moves plan w child node) c.way_below-below.ensures in
+    then_ok c.mend.result
+    (λ is none.
+    mended_still c.args.list.now c.mend.new.self k c.length-2.result (node_moves plan below child node) c.in_ok-edit.edit c.in_ok-edit.ensures.moves
+    is (same ∙ sym all ∙ none))
+    c.mend.ensures
+
+pub edit_child-returns-clause-counts : goal.edit_child-returns-clause-counts
+edit_child-returns-clause-counts g t c =
+    let plan = plain_plan (g.M.Marked.marks c.args.plan.now.marks.now) (g.D.Scope.items c.args.plan.now.scope.now) c.args.plan.now in
+    let ways = option_map (λ numbers. numbers.now) c.args.way in
+    let self = c.args.self.now in
+    let made = made_by c.args.list.now self.inner in
+    let node = c.args.node.now in
+    let k = c.args.k in
+    let child = c.in-Some-child.child.now in
+    let below = option_map (λ numbers. numbers.now) c.way_below-below.result in
+    let mends = ap (λ (w : Option (List ℕ)). is_put plan w) (sym c.way_below-below.ensures) ∙ sym c.puts_at.ensures ∙ c.if-puts_at.false in
+    emits_more (node_cost plan below child node) (child_cost plan ways self.inner k node) (g.W.Work.counts c.args.work.now)
+    (g.W.Work.counts c.node_edit.new.work)
+    (omega
+    (arith, ap (λ (w : Option (List ℕ)). node_cost plan w child node) c.way_below-below.ensures, cost_mend plan ways self.inner k node c.in-Some.number child (sym c.in-Some.ensures) (sym c.in-Some-child.ensures) mends))
+    c.node_edit.ensures.counts
 
 -- ---- what is new of a node
 
@@ -588,77 +573,47 @@ pub node_edit-list_edit-requires : goal.node_edit-list_edit-requires
 node_edit-list_edit-requires g t c κs within =
     (omega arith, (within.0, (within.1.0, (within.1.1, ((c.requires.subtree, c.requires.few), (c.requires.fits, c.requires.near.1))))))
 
-pub node_edit-returns-then-is_unchanged-clause-none : goal.node_edit-returns-then-is_unchanged-clause-none
-node_edit-returns-then-is_unchanged-clause-none g t c =
+pub node_edit-returns-in-Ok-clause-none : goal.node_edit-returns-in-Ok-clause-none
+node_edit-returns-in-Ok-clause-none g t c =
     let plan = plain_plan (g.M.Marked.marks c.args.plan.now.marks.now) (g.D.Scope.items c.args.plan.now.scope.now) c.args.plan.now in
     let ways = option_map (λ numbers. numbers.now) c.args.way in
     let self = c.args.self.now in
     let node = c.args.node.now in
-    let list = c.in_ok-list.list in
-    let same = c.is_unchanged.ensures.same c.if-is_unchanged.true in
-    let own = own_then plan (ends_here ways) c.in_ok-own.own self.own node.label c.in_ok-own.ensures.none c.in_ok-own.ensures.some c.requires.near.0 in
-    unchanged_node plan c.in_ok-own.own list self node same.0 same.1 own c.in_ok-list.ensures.made
-
-pub node_edit-overflow_sub-list : goal.node_edit-overflow_sub-list
-node_edit-overflow_sub-list g t c =
-    let list = c.in_ok-list.list in
-    let lengths = kept_lengths (made_by list c.args.self.now.inner) in
-    omega (arith, c.in_ok-list.ensures.list.first, c.in_ok-list.ensures.list.total, sum_by-take-le (λ (n : ℕ). n) lengths 1)
-
-pub node_edit-jumps-requires : goal.node_edit-jumps-requires
-node_edit-jumps-requires g t c =
-    let list = c.in_ok-list.list in
-    let lengths = kept_lengths (made_by list c.args.self.now.inner) in
-    record {
-      short =
-          omega
-          (arith, c.in_ok-list.ensures.list.first, c.in_ok-list.ensures.list.total, sum_by-take-le (λ (n : ℕ). n) lengths 1, c.in_ok-bare.ensures.length, c.in_ok-bare.ensures.short);
-    }
-
-pub node_edit-jump_count-requires : goal.node_edit-jump_count-requires
-node_edit-jump_count-requires g t c =
-    let list = c.in_ok-list.list in
-    let around = jumps_around c.own_after-last.result.now list.first (list.total - list.first) in
-    let jumps = c.in_ok-jumps.ensures in
-    record {
-      few = omega
-          (arith, ap length jumps.ahead, ap length jumps.between, ap length jumps.back, one_at_most around.ahead, one_at_most around.between, one_at_most around.back);
-    }
-
-pub node_edit-returns-clause-some : goal.node_edit-returns-clause-some
-node_edit-returns-clause-some g t c =
-    let plan = plain_plan (g.M.Marked.marks c.args.plan.now.marks.now) (g.D.Scope.items c.args.plan.now.scope.now) c.args.plan.now in
-    let ways = option_map (λ numbers. numbers.now) c.args.way in
-    let self = c.args.self.now in
-    let node = c.args.node.now in
-    let list = c.in_ok-list.list in
+    let list = c.in-Ok.list in
+    let so = if_ok _ c.list_edit.result list c.in-Ok.is c.list_edit.ensures.made in
+    let fits = if_ok _ c.list_edit.result list c.in-Ok.is c.list_edit.ensures.list in
     let own = c.in_ok-own.own in
-    let after = unwrap_or own self.own in
-    let last : c.own_after-last.result.now ≡ after = c.own_after-last.ensures ∙ ap (λ (o : PlainOwnCode). unwrap_or own o) (own_is c.self.inside self c.self.view_is c.self.invariant) in
-    let made = made_by list self.inner in
-    let edit = c.in_ok-list.ensures.list in
-    let jumps = plain_jumps c.in_ok-jumps.jumps in
-    let others = list.total - list.first in
-    let ahead = c.in_ok-jumps.ensures.ahead ∙ ap (λ (o : PlainOwnCode). option_to_list (jumps_around o list.first others).ahead) last in
-    let between = c.in_ok-jumps.ensures.between ∙ ap (λ (o : PlainOwnCode). option_to_list (jumps_around o list.first others).between) last in
-    let back = c.in_ok-jumps.ensures.back ∙ ap (λ (o : PlainOwnCode). option_to_list (jumps_around o list.first others).back) last in
-    let bare = c.in_ok-bare.bare in
-    let long = c.in_ok-bare.ensures.length ∙ ap (λ (o : PlainOwnCode). length o.pieces.before + length o.pieces.behind + list.total) last in
-    let short = c.in_ok-bare.ensures.short in
-    let whole = length_then after made list.first list.total edit.first edit.total jumps ahead between back bare long short in
-    let fact : IsNodeEdit _ plan self node =
-    record {
-      own = own_then plan (ends_here ways) own self.own node.label c.in_ok-own.ensures.none c.in_ok-own.ensures.some c.requires.near.0;
-      inner = c.in_ok-list.ensures.made;
-      fit = edit.fit;
-      jumps = jumps_then after made list.first list.total edit.first edit.total jumps ahead between back bare long short;
-      length = ap (λ (n : ℕ). bare + n) c.jump_count.ensures ∙ whole;
-    } in
-    subst
-    (λ (steps : CodeEdit).
-    IsNodeEdit (record { mending = record { own = own; jumps = c.in_ok-jumps.jumps; inner = steps }; length = bare + c.jump_count.result }) plan self
-    node)
-    (sym c.of.ensures) fact
+    let its = own_then plan (ends_here ways) own self.own node.label c.in_ok-own.ensures.none c.in_ok-own.ensures.some c.requires.near.0 in
+    if_none c.edit_by.result (λ same. unchanged_node plan own list self node same.0 same.1 its so) c.edit_by.ensures.none
+
+pub node_edit-returns-in-Ok-clause-some : goal.node_edit-returns-in-Ok-clause-some
+node_edit-returns-in-Ok-clause-some g t c =
+    let plan = plain_plan (g.M.Marked.marks c.args.plan.now.marks.now) (g.D.Scope.items c.args.plan.now.scope.now) c.args.plan.now in
+    let ways = option_map (λ numbers. numbers.now) c.args.way in
+    let self = c.args.self.now in
+    let node = c.args.node.now in
+    let list = c.in-Ok.list in
+    let so = if_ok _ c.list_edit.result list c.in-Ok.is c.list_edit.ensures.made in
+    let fits = if_ok _ c.list_edit.result list c.in-Ok.is c.list_edit.ensures.list in
+    let own = c.in_ok-own.own in
+    let its = own_then plan (ends_here ways) own self.own node.label c.in_ok-own.ensures.none c.in_ok-own.ensures.some c.requires.near.0 in
+    if_edited c.edit_by.result
+    (λ edit is. node_edited plan edit own list self node fits its so is) c.edit_by.ensures.some
+
+pub node_edit-returns-in-Ok-clause-moves : goal.node_edit-returns-in-Ok-clause-moves
+node_edit-returns-in-Ok-clause-moves g t c =
+    let plan = plain_plan (g.M.Marked.marks c.args.plan.now.marks.now) (g.D.Scope.items c.args.plan.now.scope.now) c.args.plan.now in
+    let ways = option_map (λ numbers. numbers.now) c.args.way in
+    let self = c.args.self.now in
+    let node = c.args.node.now in
+    let made = is_remade plan (ends_here ways) self.own node.label in
+    let moved = list_moves plan ways self.inner node.inner in
+    if_edited c.edit_by.result
+    (λ edit changed.
+    either_moves made moved
+    (moved_then c.in_ok-own.own made moved (length c.in-Ok.list.steps.items) c.in_ok-own.ensures.made changed
+    (λ none. ap length (if_ok _ c.list_edit.result c.in-Ok.list c.in-Ok.is c.list_edit.ensures.moves none))))
+    c.edit_by.ensures.changed
 
 -- ---- what that costs
 
@@ -682,8 +637,8 @@ node_edit-returns-in_err-own-clause-counts g t c =
     emits_more (if made then long else 0) (node_cost plan ways self node) (g.W.Work.counts c.args.work.now) (g.W.Work.counts c.new_own.new.work)
     (omega (arith, pieces)) c.new_own.ensures.counts
 
-pub node_edit-returns-in_err-list-clause-counts : goal.node_edit-returns-in_err-list-clause-counts
-node_edit-returns-in_err-list-clause-counts g t c =
+pub node_edit-returns-in-Err-clause-counts : goal.node_edit-returns-in-Err-clause-counts
+node_edit-returns-in-Err-clause-counts g t c =
     let plan = plain_plan (g.M.Marked.marks c.args.plan.now.marks.now) (g.D.Scope.items c.args.plan.now.scope.now) c.args.plan.now in
     let ways = option_map (λ numbers. numbers.now) c.args.way in
     let self = c.args.self.now in
@@ -703,128 +658,37 @@ node_edit-returns-in_err-list-clause-counts g t c =
     (g.W.Work.counts c.args.work.now) (g.W.Work.counts c.new_own.new.work) (g.W.Work.counts c.list_edit.new.work) (omega (arith, pieces))
     c.new_own.ensures.counts c.list_edit.ensures.counts
 
-pub node_edit-returns-then-is_unchanged-clause-counts : goal.node_edit-returns-then-is_unchanged-clause-counts
-node_edit-returns-then-is_unchanged-clause-counts g t c =
+pub node_edit-returns-in-Ok-clause-counts : goal.node_edit-returns-in-Ok-clause-counts
+node_edit-returns-in-Ok-clause-counts g t c =
     let plan = plain_plan (g.M.Marked.marks c.args.plan.now.marks.now) (g.D.Scope.items c.args.plan.now.scope.now) c.args.plan.now in
     let ways = option_map (λ numbers. numbers.now) c.args.way in
     let self = c.args.self.now in
     let node = c.args.node.now in
-    let marks = plan.marks in
-    let items = plan.items in
     let made = is_remade plan (ends_here ways) self.own node.label in
     let moved = list_moves plan ways self.inner node.inner in
-    let whole = own_code_by marks items node.label in
+    let whole = own_code_by plan.marks plan.items node.label in
     let long = length whole.pieces.before + length whole.pieces.behind in
-    let jumps = jumps_length whole (kept_lengths (kept_code marks items node.inner)) in
-    let parts =
-    own_parts c.lengths_are_told.ensures.own plan node.label whole (kept_code marks items node.inner) node.inner refl
-    (roomless_kept marks items node.inner) in
-    let pieces = pieces_cost plan node.label made moved long jumps parts in
-    emits_then (if made then long else 0) (list_cost plan ways self.inner node.inner) (node_cost plan ways self node)
-    (g.W.Work.counts c.args.work.now) (g.W.Work.counts c.new_own.new.work) (g.W.Work.counts c.list_edit.new.work) (omega (arith, pieces))
-    c.new_own.ensures.counts c.list_edit.ensures.counts
-
-pub node_edit-returns-in_err-bare-clause-counts : goal.node_edit-returns-in_err-bare-clause-counts
-node_edit-returns-in_err-bare-clause-counts g t c =
-    let plan = plain_plan (g.M.Marked.marks c.args.plan.now.marks.now) (g.D.Scope.items c.args.plan.now.scope.now) c.args.plan.now in
-    let ways = option_map (λ numbers. numbers.now) c.args.way in
-    let self = c.args.self.now in
-    let node = c.args.node.now in
-    let marks = plan.marks in
-    let items = plan.items in
-    let made = is_remade plan (ends_here ways) self.own node.label in
-    let moved = list_moves plan ways self.inner node.inner in
-    let whole = own_code_by marks items node.label in
-    let long = length whole.pieces.before + length whole.pieces.behind in
-    let jumps = jumps_length whole (kept_lengths (kept_code marks items node.inner)) in
-    let parts =
-    own_parts c.lengths_are_told.ensures.own plan node.label whole (kept_code marks items node.inner) node.inner refl
-    (roomless_kept marks items node.inner) in
-    let pieces = pieces_cost plan node.label made moved long jumps parts in
-    emits_then (if made then long else 0) (list_cost plan ways self.inner node.inner) (node_cost plan ways self node)
-    (g.W.Work.counts c.args.work.now) (g.W.Work.counts c.new_own.new.work) (g.W.Work.counts c.list_edit.new.work) (omega (arith, pieces))
-    c.new_own.ensures.counts c.list_edit.ensures.counts
-
-pub node_edit-returns-in_err-jumps-clause-counts : goal.node_edit-returns-in_err-jumps-clause-counts
-node_edit-returns-in_err-jumps-clause-counts g t c =
-    let plan = plain_plan (g.M.Marked.marks c.args.plan.now.marks.now) (g.D.Scope.items c.args.plan.now.scope.now) c.args.plan.now in
-    let ways = option_map (λ numbers. numbers.now) c.args.way in
-    let self = c.args.self.now in
-    let node = c.args.node.now in
-    let marks = plan.marks in
-    let items = plan.items in
-    let made = is_remade plan (ends_here ways) self.own node.label in
-    let moved = list_moves plan ways self.inner node.inner in
-    let whole = own_code_by marks items node.label in
-    let long = length whole.pieces.before + length whole.pieces.behind in
-    let list = c.in_ok-list.list in
+    let list = c.in-Ok.list in
+    let so = if_ok _ c.list_edit.result list c.in-Ok.is c.list_edit.ensures.made in
+    let fits = if_ok _ c.list_edit.result list c.in-Ok.is c.list_edit.ensures.list in
     let own = c.in_ok-own.own in
-    let last : c.own_after-last.result.now ≡ whole =
-    c.own_after-last.ensures
-    ∙ ap (λ (o : PlainOwnCode). unwrap_or own o) (own_is c.self.inside self c.self.view_is c.self.invariant)
-    ∙ own_then plan (ends_here ways) own self.own node.label c.in_ok-own.ensures.none c.in_ok-own.ensures.some c.requires.near.0 in
+    let its = own_then plan (ends_here ways) own self.own node.label c.in_ok-own.ensures.none c.in_ok-own.ensures.some c.requires.near.0 in
+    let after = unwrap_or own self.own in
     let inside = made_by list self.inner in
-    let edit = c.in_ok-list.ensures.list in
-    let around = jumps_around c.own_after-last.result.now list.first (list.total - list.first) in
-    let are = jumps_are whole c.own_after-last.result.now inside list.first list.total last edit.first edit.total in
-    let parts = own_parts c.lengths_are_told.ensures.own plan node.label whole inside node.inner refl c.in_ok-list.ensures.made in
-    let few = c.own_codes_stay_in_slots.ensures.jumps c.own_after-last.result.now list.first (list.total - list.first) in
-    let moves =
-    moved_then own made moved (length list.steps.items) c.in_ok-own.ensures.made (c.is_unchanged.ensures.changed c.if-is_unchanged.false)
-    (λ none. ap length (c.in_ok-list.ensures.moves none)) in
+    let edit = fits in
+    let jumps = jumps_length after (kept_lengths inside) in
+    let are = jumps_are after after inside list.first list.total refl edit.first edit.total in
+    let few : jumps ≤ 2 = omega (arith, are, c.own_codes_stay_in_slots.ensures.jumps after list.first (list.total - list.first)) in
+    let parts = own_parts c.lengths_are_told.ensures.own plan node.label after inside node.inner its so in
+    let same = ap (λ (o : PlainOwnCode). length o.pieces.before + length o.pieces.behind) its in
     let pieces = if made then long else 0 in
     let cost = list_cost plan ways self.inner node.inner in
-    let both = own_costs plan node.label made moved long (count_jumps around) (ap (λ (n : ℕ). long + n) are ∙ parts) few moves in
-    emits_then (pieces + cost) (count_jumps around) (node_cost plan ways self node) (g.W.Work.counts c.args.work.now)
-    (g.W.Work.counts c.list_edit.new.work) (g.W.Work.counts c.jumps.new.work) (omega (arith, both))
+    let (n, less, paid) =
+    edit_costs plan node.label own made moved (length list.steps.items) long jumps (g.W.Work.counts c.list_edit.new.work)
+    (g.W.Work.counts c.edit_by.new.work) (omega (arith, parts, same)) few c.in_ok-own.ensures.made (λ none. ap length (if_ok _ c.list_edit.result c.in-Ok.list c.in-Ok.is c.list_edit.ensures.moves none))
+    c.edit_by.ensures.unchanged c.edit_by.ensures.counts in
+    emits_then (pieces + cost) n (node_cost plan ways self node) (g.W.Work.counts c.args.work.now) (g.W.Work.counts c.list_edit.new.work)
+    (g.W.Work.counts c.edit_by.new.work) (omega (arith, less))
     (emits_then pieces cost (pieces + cost) (g.W.Work.counts c.args.work.now) (g.W.Work.counts c.new_own.new.work)
     (g.W.Work.counts c.list_edit.new.work) (omega arith) c.new_own.ensures.counts c.list_edit.ensures.counts)
-    c.jumps.ensures.counts
-
-pub node_edit-returns-clause-counts : goal.node_edit-returns-clause-counts
-node_edit-returns-clause-counts g t c =
-    let plan = plain_plan (g.M.Marked.marks c.args.plan.now.marks.now) (g.D.Scope.items c.args.plan.now.scope.now) c.args.plan.now in
-    let ways = option_map (λ numbers. numbers.now) c.args.way in
-    let self = c.args.self.now in
-    let node = c.args.node.now in
-    let marks = plan.marks in
-    let items = plan.items in
-    let made = is_remade plan (ends_here ways) self.own node.label in
-    let moved = list_moves plan ways self.inner node.inner in
-    let whole = own_code_by marks items node.label in
-    let long = length whole.pieces.before + length whole.pieces.behind in
-    let list = c.in_ok-list.list in
-    let own = c.in_ok-own.own in
-    let last : c.own_after-last.result.now ≡ whole =
-    c.own_after-last.ensures
-    ∙ ap (λ (o : PlainOwnCode). unwrap_or own o) (own_is c.self.inside self c.self.view_is c.self.invariant)
-    ∙ own_then plan (ends_here ways) own self.own node.label c.in_ok-own.ensures.none c.in_ok-own.ensures.some c.requires.near.0 in
-    let inside = made_by list self.inner in
-    let edit = c.in_ok-list.ensures.list in
-    let around = jumps_around c.own_after-last.result.now list.first (list.total - list.first) in
-    let are = jumps_are whole c.own_after-last.result.now inside list.first list.total last edit.first edit.total in
-    let parts = own_parts c.lengths_are_told.ensures.own plan node.label whole inside node.inner refl c.in_ok-list.ensures.made in
-    let few = c.own_codes_stay_in_slots.ensures.jumps c.own_after-last.result.now list.first (list.total - list.first) in
-    let moves =
-    moved_then own made moved (length list.steps.items) c.in_ok-own.ensures.made (c.is_unchanged.ensures.changed c.if-is_unchanged.false)
-    (λ none. ap length (c.in_ok-list.ensures.moves none)) in
-    let pieces = if made then long else 0 in
-    let cost = list_cost plan ways self.inner node.inner in
-    let both = own_costs plan node.label made moved long (count_jumps around) (ap (λ (n : ℕ). long + n) are ∙ parts) few moves in
-    emits_then (pieces + cost) (count_jumps around) (node_cost plan ways self node) (g.W.Work.counts c.args.work.now)
-    (g.W.Work.counts c.list_edit.new.work) (g.W.Work.counts c.jumps.new.work) (omega (arith, both))
-    (emits_then pieces cost (pieces + cost) (g.W.Work.counts c.args.work.now) (g.W.Work.counts c.new_own.new.work)
-    (g.W.Work.counts c.list_edit.new.work) (omega arith) c.new_own.ensures.counts c.list_edit.ensures.counts)
-    c.jumps.ensures.counts
-
-pub node_edit-returns-clause-moves : goal.node_edit-returns-clause-moves
-node_edit-returns-clause-moves g t c =
-    let plan = plain_plan (g.M.Marked.marks c.args.plan.now.marks.now) (g.D.Scope.items c.args.plan.now.scope.now) c.args.plan.now in
-    let ways = option_map (λ numbers. numbers.now) c.args.way in
-    let self = c.args.self.now in
-    let node = c.args.node.now in
-    let made = is_remade plan (ends_here ways) self.own node.label in
-    let moved = list_moves plan ways self.inner node.inner in
-    either_moves made moved
-    (moved_then c.in_ok-own.own made moved (length c.in_ok-list.list.steps.items) c.in_ok-own.ensures.made
-    (c.is_unchanged.ensures.changed c.if-is_unchanged.false) (λ none. ap length (c.in_ok-list.ensures.moves none)))
+    paid

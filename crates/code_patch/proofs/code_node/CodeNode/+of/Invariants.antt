@@ -14,24 +14,24 @@ use Rattle.code_patch.proofs.code_node.CodeNode.+of.Given as goal
 abbrev pub decreases-of : goal.decreases-of
 decreases-of g l = count l.node.now.inner + count l.node.now.inner + 1
 
-abbrev pub decreases-inside : goal.decreases-inside
-decreases-inside g l = count (nodes_inside l.outer.now) + count (nodes_inside l.outer.now)
+abbrev pub decreases-fill : goal.decreases-fill
+decreases-fill g l = count (nodes_inside l.outer.now) + count (nodes_inside l.outer.now)
 
-abbrev pub decreases-inside-loop-node : goal.decreases-inside-loop-node
-decreases-inside-loop-node g l = length (nodes (nodes_inside l.outer)) - l.k
+abbrev pub decreases-fill-loop-node : goal.decreases-fill-loop-node
+decreases-fill-loop-node g l = length (nodes (nodes_inside l.outer)) - l.k
 
-abbrev pub invariant-inside-loop-node : goal.invariant-inside-loop-node
-invariant-inside-loop-node g l =
+abbrev pub invariant-fill-loop-node : goal.invariant-fill-loop-node
+invariant-fill-loop-node g l =
     let marks = g.M.Marked.marks l.marks in
     let items = g.D.Scope.items l.scope in
     let all = nodes_inside l.outer in
     let left = forest (drop l.k (nodes all)) in
     record {
       within : l.k ≤ length (nodes all);
-      own : l.kept.own ≡ no_own_code;
-      many : length (code_nodes l.kept.inner) ≡ l.k;
-      short : kept_length l.kept ≤ most_instrs;
-      made : join_code (roomless_code l.kept.inner) (kept_code marks items left) ≡ kept_code marks items all;
+      own : l.self.own ≡ no_own_code;
+      many : length (code_nodes l.self.inner) ≡ l.k;
+      short : kept_length l.self ≤ most_instrs;
+      made : join_code (roomless_code l.self.inner) (kept_code marks items left) ≡ kept_code marks items all;
       counts :
           (done : ℕ) × (done + sum (node_lengths marks items left) ≡ sum (node_lengths marks items all))
           × Emits done (g.W.Work.counts l.fn.work) (g.W.Work.counts l.work);

@@ -11,6 +11,7 @@ use Rattle.code_patch.specs.Private.PlainCodeNode.{kept_node, node_length}
 use Rattle.code_patch.specs.Private.PreparedNodes.{KeptStay, made_by, plain_plan}
 use Rattle.code_patch.proofs.CostSteps.{item_comes}
 use Rattle.code_patch.proofs.CountedCode.{emits_more, emits_none}
+use Rattle.code_patch.proofs.EditedChildren.{then_ok}
 use Rattle.code_patch.proofs.KeptItems.{edited_added, edited_dropped, edited_none, item_came, item_fits, item_is, item_went, stay_added, stay_dropped, stay_none}
 use Rattle.code_patch.proofs.MadeCode.{outer_sound}
 use Rattle.code_patch.proofs.PreparedLists.{before_is}
@@ -60,19 +61,14 @@ returns-then-not-adds g c =
     let is = sym c.in-Some.ensures in
     let went = sym c.adds.ensures ∙ c.if-not-adds.true in
     let made = made_by c.drop_child.new.list self.inner in
+    let done = c.drop_child.result in
     record {
-      list = c.in_ok-drop_child.ensures.list;
-      made = ap roomless_code (edited_dropped plan ways self after k is went made c.in_ok-drop_child.ensures.made);
-      kept = stay_dropped plan ways self after k is went made c.in_ok-drop_child.ensures.made;
-      moves = λ same. absurd (none-some k (sym same ∙ is));
+      list = c.drop_child.ensures.list;
+      made = then_ok done (λ so. ap roomless_code (edited_dropped plan ways self after k is went made so)) c.drop_child.ensures.made;
+      kept = then_ok done (λ so. stay_dropped plan ways self after k is went made so) c.drop_child.ensures.made;
+      moves = then_ok done (λ so same. absurd (none-some k (sym same ∙ is))) c.drop_child.ensures.made;
       counts = emits_none (item_cost plan ways after) (g.W.Work.counts c.args.work.now);
     }
-
-pub returns-in_err-drop_child-clause-counts : goal.returns-in_err-drop_child-clause-counts
-returns-in_err-drop_child-clause-counts g c =
-    let plan = plain_plan (g.M.Marked.marks c.args.plan.now.marks.now) (g.D.Scope.items c.args.plan.now.scope.now) c.args.plan.now in
-    let ways = option_map (λ numbers. numbers.now) c.args.way in
-    emits_none (item_cost plan ways (nodes_inside c.args.outer.now)) (g.W.Work.counts c.args.work.now)
 
 pub unreachable-requires : goal.unreachable-requires
 unreachable-requires g c =
@@ -122,30 +118,23 @@ returns g c =
     let did = sym c.adds.ensures ∙ c.if-not-adds.false in
     let came = item_came plan.what k self all did (item_fits plan.what ways k self all is c.requires.fits) in
     let made = made_by c.add_child.new.list self.inner in
+    let done = c.add_child.result in
     record {
-      list = c.in_ok-add_child.ensures.list;
+      list = c.add_child.ensures.list;
       made =
-          let (child, so, its) = c.in_ok-add_child.ensures.made in
-          edited_added plan ways self all k is did child node made so there its;
+          then_ok done
+          (λ added. let (child, so, its) = added in edited_added plan ways self all k is did child node made so there its)
+          c.add_child.ensures.made;
       kept =
-          let (child, so, its) = c.in_ok-add_child.ensures.made in
+          then_ok done
+          (λ added.
+          let (child, so, its) = added in
           stay_added plan ways self all k is did child made so came.0
           (λ other found.
-          its ∙ ap (λ (n : PlainNode). kept_node plan.marks plan.items n) (same_Some node other (sym there ∙ found)));
-      moves = λ same. absurd (none-some k (sym same ∙ is));
+          its ∙ ap (λ (n : PlainNode). kept_node plan.marks plan.items n) (same_Some node other (sym there ∙ found))))
+          c.add_child.ensures.made;
+      moves = then_ok done (λ added same. absurd (none-some k (sym same ∙ is))) c.add_child.ensures.made;
       counts =
           emits_more (node_length plan.marks plan.items node) (item_cost plan ways all) (g.W.Work.counts c.args.work.now)
           (g.W.Work.counts c.add_child.new.work) (omega (arith, item_comes plan ways all k node is did there)) c.add_child.ensures.counts;
     }
-
-pub returns-in_err-add_child-clause-counts : goal.returns-in_err-add_child-clause-counts
-returns-in_err-add_child-clause-counts g c =
-    let plan = plain_plan (g.M.Marked.marks c.args.plan.now.marks.now) (g.D.Scope.items c.args.plan.now.scope.now) c.args.plan.now in
-    let ways = option_map (λ numbers. numbers.now) c.args.way in
-    let all = nodes_inside c.args.outer.now in
-    let k = c.in-Some.k in
-    let node = c.in-Some-child.node.now in
-    let there : slice_get (nodes all) k ≡ Some node = sym c.in-Some-child.ensures in
-    let comes = item_comes plan ways all k node (sym c.in-Some.ensures) (sym c.adds.ensures ∙ c.if-not-adds.false) there in
-    emits_more (node_length plan.marks plan.items node) (item_cost plan ways all) (g.W.Work.counts c.args.work.now)
-    (g.W.Work.counts c.add_child.new.work) (omega (arith, comes)) c.add_child.ensures.counts

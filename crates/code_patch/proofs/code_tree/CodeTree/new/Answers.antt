@@ -28,8 +28,8 @@ returns-in_err-root-clause-counts g c =
     emits_more (sum (node_lengths marks items program)) (length (Gen marks items program).instrs) (g.W.Work.counts c.args.work.now) (g.W.Work.counts c.inside.new.work)
     (omega (arith, whole c.lengths_are_told.ensures.told marks items program)) c.inside.ensures.counts
 
-pub returns-in_err-names-clause-counts : goal.returns-in_err-names-clause-counts
-returns-in_err-names-clause-counts g c =
+pub returns-in-Err-clause-counts : goal.returns-in-Err-clause-counts
+returns-in-Err-clause-counts g c =
     let marks = g.M.Marked.marks c.args.marks.now in
     let items = g.D.Scope.items c.args.scope.now in
     let program = c.args.tree.now.items in
@@ -44,13 +44,13 @@ invariant_of-result g c =
     let root = c.in_ok-root.root in
     record {
       own = c.in_ok-root.ensures.own;
-      names = c.in_ok-names.ensures ∙ names_kept marks items program root.inner c.in_ok-root.ensures.inner;
+      names = c.in-Ok.ensures ∙ names_kept marks items program root.inner c.in_ok-root.ensures.inner;
       sound = sound_kept c.own_codes_stay_in_slots.ensures.steps marks items program root.inner c.requires.tree.once c.in_ok-root.ensures.inner;
       short = c.in_ok-root.ensures.short;
     }
 
-pub returns-clause-counted : goal.returns-clause-counted
-returns-clause-counted g c =
+pub returns-in-Ok-clause-counted : goal.returns-in-Ok-clause-counted
+returns-in-Ok-clause-counted g c =
     let marks = g.M.Marked.marks c.args.marks.now in
     let items = g.D.Scope.items c.args.scope.now in
     let program = c.args.tree.now.items in
@@ -58,15 +58,15 @@ returns-clause-counted g c =
     (g.W.Work.counts c.inside.new.work) (g.W.Work.counts c.inside.new.work)
     (omega (arith, whole c.lengths_are_told.ensures.told marks items program)) c.in_ok-root.ensures.counted (emits_nothing (g.W.Work.counts c.inside.new.work))
 
-pub returns-clause-counts : goal.returns-clause-counts
-returns-clause-counts g c =
+pub returns-in-Ok-clause-counts : goal.returns-in-Ok-clause-counts
+returns-in-Ok-clause-counts g c =
     let marks = g.M.Marked.marks c.args.marks.now in
     let items = g.D.Scope.items c.args.scope.now in
     let program = c.args.tree.now.items in
     emits_more (sum (node_lengths marks items program)) (length (Gen marks items program).instrs) (g.W.Work.counts c.args.work.now) (g.W.Work.counts c.inside.new.work)
     (omega (arith, whole c.lengths_are_told.ensures.told marks items program)) c.inside.ensures.counts
 
-pub returns-clause-code : goal.returns-clause-code
-returns-clause-code g c =
+pub returns-in-Ok-clause-code : goal.returns-in-Ok-clause-code
+returns-in-Ok-clause-code g c =
     kept_told c.lengths_are_told.ensures.own c.lengths_are_told.ensures.told c.in_ok-root.root.inner
     (g.M.Marked.marks c.args.marks.now) (g.D.Scope.items c.args.scope.now) c.args.tree.now.items c.in_ok-root.ensures.inner
