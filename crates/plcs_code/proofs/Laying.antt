@@ -2,6 +2,7 @@
 -- into: so what is laid is joined by one lemma, and what that makes of a draft or of a tally is found by one induction
 -- each.
 use Rattle.std.proofs.Common.{ℕ, ◌+◌, ◌≤◌, false, List, [], ◌∷◌, ◌++◌, length, ◌≡◌, refl, subst, ap, sym, ◌∙◌, arith, append_assoc}
+use Rattle.std.specs.Prelude.{Err, Ok, OnOk, Result}
 use Rattle.std.proofs.lemmas.List.{append-nil}
 use Rattle.plcs_base.specs.Count.{raised_by}
 use Rattle.plcs_base.specs.PlainCounts.{PlainCounts}
@@ -37,6 +38,16 @@ pub record Drafted (before : PlainDraft) (u : PlainCounts) (code : List PlainIns
   pub instrs : after.failed ≡ false → after.instrs ≡ before.instrs ++ code
   pub counted : after.failed ≡ false → Emits (length code) u v
   pub counts : EmitsAtMost (length code) u v
+
+-- what holds in any case holds where a call succeeds
+pub ok_always : {T E P : Type 0} (result : Result T E) → P → OnOk result P
+ok_always (Ok value) fact = fact
+ok_always (Err error) fact = tt
+
+-- what follows from a fact holds where that fact does, if a call succeeds
+pub ok_then : {T E P Q : Type 0} (result : Result T E) → (P → Q) → OnOk result P → OnOk result Q
+ok_then (Ok value) follows fact = follows fact
+ok_then (Err error) follows fact = tt
 
 -- a count that is raised by nothing stays
 raised_none : (count : ℕ) → raised_by 0 count ≡ count

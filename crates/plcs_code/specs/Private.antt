@@ -8,5 +8,6 @@ pub mod CodeMaps
 pub mod LaidCode
 pub mod LaysAll
 pub mod PlainDraft
+pub mod PlainHalt
 pub mod PlainJumps
 pub mod PutInstr

@@ -1,15 +1,17 @@
 //! The code of a program, made afresh.
-ghost use Rattle.std.specs.Prelude.{◌≡◌, [], IfOk, OnOk, length};
-ghost use Rattle.std.specs.FinMap.{empty};
+ghost use Rattle.std.specs.Prelude.{◌≡◌, ◌++◌, [], IfOk, OnOk, flat_map, length};
+ghost use Rattle.std.specs.FinMap.{empty, from_entries};
 ghost use Rattle.template_tree.specs.Programs.Tree.{IsTree};
 ghost use Rattle.plcs_code.specs.Counts.{Emits, EmitsAtMost};
-ghost use Rattle.plcs_code.specs.Gen.{Gen, node_spans};
+ghost use Rattle.plcs_code.specs.Gen.{Gen, addresses_in, node_address, node_spans, span_by_slot};
 
 use crate::addresses::Addresses;
+use crate::block::Block;
 use crate::flat_code::FlatCode;
 use crate::headings::Headings;
 use crate::laid::Laid;
 use crate::lengths::Lengths;
+use crate::node_span::NodeSpan;
 use crate::spans::Spans;
 use plcs_base::{Marked, OutOfMemory, Scope, Work};
 use std::alloc::Global;
@@ -37,16 +39,50 @@ pub fn generate<W: Work, M: Marked, D: Scope>(
 {
     let mut laid = Laid::new(alloc);
     let mut headings = Headings::new(alloc);
-    lay_program(alloc, tree, marks, scope, &mut laid, &mut headings, work)?;
+    match lay_program(alloc, tree, marks, scope, &mut laid, &mut headings, work) {
+        Ok(()) => flat_code(alloc, laid, headings),
+        Err(error) => Err(error),
+    }
+}
+
+/// The code of a program that was laid, with these headings.
+fn flat_code<W>(
+    alloc: Global,
+    laid: Laid<W>,
+    headings: Headings,
+) -> Result<FlatCode<W>, OutOfMemory>
+    ensures { IfOk result (λ code. code ≡ record {
+      instrs = laid.instrs;
+      addresses = from_entries (flat_map node_address laid.spans ++ addresses_in 0 laid.instrs);
+      headings = headings;
+      spans = from_entries (flat_map span_by_slot laid.spans);
+    }) }
+{
     let (block, nodes) = laid.into_parts();
-    let addresses = Addresses::of(alloc, &nodes, &block)?;
-    let spans = Spans::of(alloc, &nodes)?;
-    Ok(FlatCode {
-        block,
-        addresses,
-        headings,
-        spans,
-    })
+    match maps_of(alloc, &nodes, &block) {
+        Ok((addresses, spans)) => Ok(FlatCode {
+            block,
+            addresses,
+            headings,
+            spans,
+        }),
+        Err(error) => Err(error),
+    }
+}
+
+/// The addresses of places and the spans of slots in code, in which the nodes stand so.
+fn maps_of<W>(
+    alloc: Global,
+    nodes: &[NodeSpan],
+    code: &Block<W>,
+) -> Result<(Addresses, Spans), OutOfMemory>
+    ensures addresses { IfOk result (λ maps. maps.0
+        ≡ from_entries (flat_map node_address nodes.now ++ addresses_in 0 code.now)) }
+    ensures spans { IfOk result (λ maps. maps.1 ≡ from_entries (flat_map span_by_slot nodes.now)) }
+{
+    let addresses = Addresses::of(alloc, nodes, code)?;
+    let spans = Spans::of(alloc, nodes)?;
+    Ok((addresses, spans))
 }
 
 /// Makes the code of main and of each procedure afresh, and notes their headings.

@@ -111,11 +111,9 @@ impl<W: Work> Laid<W> {
         let Some(length) = lengths.next() else {
             unreachable!()
         };
-        self.begin(node, length.whole)?;
-        let behind = self.lay_front(alloc, node, marks, scope, length, work)?;
+        let behind = self.lay_head(alloc, node, marks, scope, length, work)?;
         self.lay_inside(alloc, node, behind.between, marks, scope, lengths, work)?;
-        self.lay_rest(node, marks, behind.back, work)?;
-        Ok(())
+        self.lay_rest(node, marks, behind.back, work)
     }
 
     /// Lays the codes of the nodes inside a node, with a jump behind the first of them.
@@ -154,8 +152,42 @@ impl<W: Work> Laid<W> {
             self.lay_jump(jump.take(), work)?;
             k += 1;
         }
-        self.lay_jump(jump, work)?;
-        Ok(())
+        self.lay_jump(jump, work)
+    }
+
+    /// Notes where the code of a node of these lengths stands, lays what stands before the nodes inside it, and answers
+    /// the jumps that come behind them.
+    fn lay_head<M: Marked, D: Scope>(
+        &mut self,
+        alloc: Global,
+        node: &Node,
+        marks: &M,
+        scope: &D,
+        lengths: NodeLength,
+        work: &mut W,
+    ) -> Result<JumpsBehind, OutOfMemory>
+        requires few { length node.now.label.parts < 256 }
+        requires short { length (pieces (M.marks marks.now) (D.items scope.now) node.now.label).before
+            + lengths.first + lengths.others + 2 ≤ most_instrs }
+        ensures laid { OnOk result (self.new ≡ with_instrs
+            (front (M.marks marks.now) (D.items scope.now) node.now.label lengths) (with_span (record {
+              slot = record { 0 = node.now.label.slot };
+              kind = node.now.label.kind;
+              start = length self.old.instrs;
+              length = lengths.whole;
+            }) self.old)) }
+        ensures between { IfOk result (λ behind. option_map plain_instr behind.between
+            ≡ (jumps_by (M.marks marks.now) (D.items scope.now) node.now.label lengths).between) }
+        ensures back { IfOk result (λ behind. option_map plain_instr behind.back
+            ≡ (jumps_by (M.marks marks.now) (D.items scope.now) node.now.label lengths).back) }
+        ensures counted { OnOk result (Emits
+            (length (front (M.marks marks.now) (D.items scope.now) node.now.label lengths))
+            (W.counts work.old) (W.counts work.new)) }
+        ensures counts { EmitsAtMost (length (front (M.marks marks.now) (D.items scope.now) node.now.label lengths))
+            (W.counts work.old) (W.counts work.new) }
+    {
+        self.begin(node, lengths.whole)?;
+        self.lay_front(alloc, node, marks, scope, lengths, work)
     }
 
     /// Notes where the code of a node stands in the code that is laid: from here on, with this length.
@@ -202,14 +234,38 @@ impl<W: Work> Laid<W> {
         ensures counts { EmitsAtMost (length (front (M.marks marks.now) (D.items scope.now) node.now.label lengths))
             (W.counts work.old) (W.counts work.new) }
     {
-        let items = procedure_items(alloc, scope, node)?;
-        let before = self.lay_before(alloc, node, marks, &items, work)?;
+        let before = self.lay_before_by_scope(alloc, node, marks, scope, work)?;
         let jumps = own_jumps(node, marks, before, lengths.first, lengths.others);
         self.lay_jump(jumps.ahead, work)?;
         Ok(JumpsBehind {
             between: jumps.between,
             back: jumps.back,
         })
+    }
+
+    /// Lays what stands in the own code of a node before the nodes inside it, by the effective items of the program;
+    /// and answers how much that is.
+    fn lay_before_by_scope<M: Marked, D: Scope>(
+        &mut self,
+        alloc: Global,
+        node: &Node,
+        marks: &M,
+        scope: &D,
+        work: &mut W,
+    ) -> Result<u32, OutOfMemory>
+        requires few { length node.now.label.parts < 256 }
+        ensures length { IfOk result (λ n. n
+            ≡ length (pieces (M.marks marks.now) (D.items scope.now) node.now.label).before) }
+        ensures laid { OnOk result (self.new ≡ with_instrs
+            (pieces (M.marks marks.now) (D.items scope.now) node.now.label).before self.old) }
+        ensures counted { OnOk result (Emits
+            (length (pieces (M.marks marks.now) (D.items scope.now) node.now.label).before)
+            (W.counts work.old) (W.counts work.new)) }
+        ensures counts { EmitsAtMost (length (pieces (M.marks marks.now) (D.items scope.now) node.now.label).before)
+            (W.counts work.old) (W.counts work.new) }
+    {
+        let items = procedure_items(alloc, scope, node)?;
+        self.lay_before(alloc, node, marks, &items, work)
     }
 
     /// Lays the code of the program node by node: of this node what stands in its own code before the nodes

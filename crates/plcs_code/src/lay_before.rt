@@ -4,12 +4,13 @@ ghost use Rattle.template_tree.specs.Checks.Environment.{parameters_given};
 ghost use Rattle.plcs_code.specs.Pieces.{cell_instr, own_pieces, parameters_instrs, piece_at, template_pieces};
 ghost use Rattle.plcs_code.specs.PlainInstr.{plain_instr};
 ghost use Rattle.plcs_code.specs.Private.LaysAll.{LaysAll};
+ghost use Rattle.plcs_code.specs.Private.PlainHalt.{plain_halt};
 
 use crate::instr::Instr;
 use crate::instr_out::InstrOut;
 use crate::lay_cells::{lay_cells, lay_parameters};
 use crate::lay_pieces::{lay_enter, lay_first, lay_get, lay_put};
-use crate::suspension::suspension;
+use crate::suspension::{Halt, suspension};
 use plcs_base::{Declared, Marked, Name, Place, Point, Slot, Work};
 use plcs_grammar::{NodeKind, Template};
 use std::alloc::Global;
@@ -47,13 +48,13 @@ fn lay_template<W: Work, O: InstrOut<W>>(
     alloc: Global,
     node: &Node,
     template: Template,
-    stop: Option<Instr>,
+    stop: Option<Halt>,
     items: &[Declared],
     out: &mut O,
     work: &mut W,
 )
     ensures { LaysAll O.lays out.old (W.counts work.old)
-        (template_pieces node.now.label.slot (option_map plain_instr stop) None node.now.label.parts items.now
+        (template_pieces node.now.label.slot (option_map plain_halt stop) None node.now.label.parts items.now
         template).before
         out.new (W.counts work.new) }
 {

@@ -2,13 +2,14 @@
 ghost use Rattle.std.specs.Prelude.{◌≡◌, ◌∷◌, None, [], option_map};
 ghost use Rattle.template_tree.specs.Positions.Place.{place_at};
 ghost use Rattle.plcs_code.specs.Pieces.{own_pieces, piece_at, template_pieces};
-ghost use Rattle.plcs_code.specs.PlainInstr.{PlainInstr, plain_instr};
+ghost use Rattle.plcs_code.specs.PlainInstr.{PlainInstr};
 ghost use Rattle.plcs_code.specs.Private.LaysAll.{LaysAll};
+ghost use Rattle.plcs_code.specs.Private.PlainHalt.{plain_halt};
 
 use crate::instr::Instr;
 use crate::instr_out::InstrOut;
 use crate::lay_pieces::begin;
-use crate::suspension::first_suspension;
+use crate::suspension::{Halt, first_suspension};
 use plcs_base::{Marked, Place, Point, Slot, Work};
 use plcs_grammar::{NodeKind, Template};
 use template_tree::Node;
@@ -40,12 +41,12 @@ pub(crate) fn lay_behind<W: Work, O: InstrOut<W>, M: Marked>(
 fn lay_template<W: Work, O: InstrOut<W>>(
     node: &Node,
     template: Template,
-    stop: Option<Instr>,
+    stop: Option<Halt>,
     out: &mut O,
     work: &mut W,
 )
     ensures { LaysAll O.lays out.old (W.counts work.old)
-        (template_pieces node.now.label.slot None (option_map plain_instr stop) node.now.label.parts [] template).behind
+        (template_pieces node.now.label.slot None (option_map plain_halt stop) node.now.label.parts [] template).behind
         out.new (W.counts work.new) }
 {
     match template {
@@ -69,13 +70,8 @@ fn lay_template<W: Work, O: InstrOut<W>>(
 }
 
 /// Lays, behind what is inside a loop that counts, the piece before its next iteration.
-fn lay_iteration<W: Work, O: InstrOut<W>>(
-    slot: Slot,
-    stop: Option<Instr>,
-    out: &mut O,
-    work: &mut W,
-)
-    ensures { LaysAll O.lays out.old (W.counts work.old) (piece_at slot.0 1 (option_map plain_instr stop) [])
+fn lay_iteration<W: Work, O: InstrOut<W>>(slot: Slot, stop: Option<Halt>, out: &mut O, work: &mut W)
+    ensures { LaysAll O.lays out.old (W.counts work.old) (piece_at slot.0 1 (option_map plain_halt stop) [])
         out.new (W.counts work.new) }
 {
     begin(slot, 1, stop, out, work);

@@ -6,6 +6,7 @@ ghost use Rattle.plcs_code.specs.ExprCode.{listed_exprs, listed_instrs, part_ins
 ghost use Rattle.plcs_code.specs.Pieces.{enter_piece, first_piece, get_piece, piece_at};
 ghost use Rattle.plcs_code.specs.PlainInstr.{plain_instr};
 ghost use Rattle.plcs_code.specs.Private.LaysAll.{LaysAll};
+ghost use Rattle.plcs_code.specs.Private.PlainHalt.{plain_halt};
 ghost use Rattle.plcs_code.specs.Private.PutInstr.{put_instr};
 
 use crate::instr::Instr;
@@ -14,6 +15,7 @@ use crate::lay_expr::lay_exprs;
 use crate::lay_phrase::{lay_items, lay_phrase};
 use crate::limit::MOST_INSTRS;
 use crate::statement_parts::{get_targets, listed_exprs};
+use crate::suspension::Halt;
 use plcs_base::{Place, Point, Slot, Work};
 use plcs_grammar::Expr;
 use std::alloc::Global;
@@ -24,20 +26,20 @@ use template_tree::{Node, phrase_in};
 pub(crate) fn begin<W: Work, O: InstrOut<W>>(
     slot: Slot,
     point: u16,
-    stop: Option<Instr>,
+    stop: Option<Halt>,
     out: &mut O,
     work: &mut W,
 ) -> bool
     ensures laid { LaysAll O.lays out.old (W.counts work.old) (piece_at slot.0 point
-        (option_map plain_instr stop) []) out.new (W.counts work.new) }
-    ensures goes_on { result ≡ is_none (option_map plain_instr stop) }
+        (option_map plain_halt stop) []) out.new (W.counts work.new) }
+    ensures goes_on { result ≡ is_none (option_map plain_halt stop) }
 {
     let point = Point(point);
     out.put(Instr::At(Place { slot, point }), work);
     let Some(stop) = stop else {
         return true;
     };
-    out.put(stop, work);
+    out.put(stop.instr(), work);
     false
 }
 
@@ -61,12 +63,12 @@ fn lay_part<W: Work, O: InstrOut<W>>(
 pub(crate) fn lay_first<W: Work, O: InstrOut<W>>(
     alloc: Global,
     node: &Node,
-    stop: Option<Instr>,
+    stop: Option<Halt>,
     out: &mut O,
     work: &mut W,
 )
     ensures { LaysAll O.lays out.old (W.counts work.old) (first_piece node.now.label.slot
-        (option_map plain_instr stop) node.now.label.parts) out.new (W.counts work.new) }
+        (option_map plain_halt stop) node.now.label.parts) out.new (W.counts work.new) }
 {
     if begin(node.slot(), 0, stop, out, work) {
         lay_part(alloc, node, 0, out, work);
@@ -77,12 +79,12 @@ pub(crate) fn lay_first<W: Work, O: InstrOut<W>>(
 pub(crate) fn lay_enter<W: Work, O: InstrOut<W>>(
     alloc: Global,
     node: &Node,
-    stop: Option<Instr>,
+    stop: Option<Halt>,
     out: &mut O,
     work: &mut W,
 )
     ensures { LaysAll O.lays out.old (W.counts work.old) (enter_piece node.now.label.slot
-        (option_map plain_instr stop) node.now.label.parts) out.new (W.counts work.new) }
+        (option_map plain_halt stop) node.now.label.parts) out.new (W.counts work.new) }
 {
     if begin(node.slot(), 0, stop, out, work) {
         lay_part(alloc, node, 1, out, work);
@@ -95,12 +97,12 @@ pub(crate) fn lay_enter<W: Work, O: InstrOut<W>>(
 pub(crate) fn lay_get<W: Work, O: InstrOut<W>>(
     alloc: Global,
     node: &Node,
-    stop: Option<Instr>,
+    stop: Option<Halt>,
     out: &mut O,
     work: &mut W,
 )
     ensures { LaysAll O.lays out.old (W.counts work.old) (get_piece node.now.label.slot
-        (option_map plain_instr stop) (part_at node.now.label.parts 0)) out.new (W.counts work.new) }
+        (option_map plain_halt stop) (part_at node.now.label.parts 0)) out.new (W.counts work.new) }
 {
     let Some(stop) = stop else {
         lay_items(alloc, node.slot(), get_targets(node), out, work);
@@ -113,13 +115,13 @@ pub(crate) fn lay_get<W: Work, O: InstrOut<W>>(
 pub(crate) fn lay_put<W: Work, O: InstrOut<W>>(
     alloc: Global,
     node: &Node,
-    stop: Option<Instr>,
+    stop: Option<Halt>,
     skip: bool,
     out: &mut O,
     work: &mut W,
 )
     ensures { LaysAll O.lays out.old (W.counts work.old)
-        (piece_at node.now.label.slot 0 (option_map plain_instr stop)
+        (piece_at node.now.label.slot 0 (option_map plain_halt stop)
         (listed_instrs (put_instr skip) (listed_exprs (part_at node.now.label.parts 0))))
         out.new (W.counts work.new) }
 {

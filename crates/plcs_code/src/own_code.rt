@@ -8,13 +8,14 @@ ghost use Rattle.plcs_code.specs.BlockLimit.{most_instrs};
 ghost use Rattle.plcs_code.specs.Counts.{Emits, EmitsAtMost};
 ghost use Rattle.plcs_code.specs.ExprCode.{counter_name};
 ghost use Rattle.plcs_code.specs.OwnCode.{jumps_around, name_to_call, no_own_code, own_code_by};
-ghost use Rattle.plcs_code.specs.Pieces.{own_pieces, suspension};
+ghost use Rattle.plcs_code.specs.Pieces.{own_pieces, pieces, suspension};
 ghost use Rattle.plcs_code.specs.PlainInstr.{plain_instr};
+ghost use Rattle.plcs_code.specs.Private.PlainJumps.{plain_jumps};
 
 use crate::block::Block;
 use crate::instr::Instr;
 use crate::instr_out::Draft;
-use crate::jumps::{kind_jumps, lay_jump};
+use crate::jumps::{Jumps, kind_jumps, lay_jump};
 use crate::lay_before::lay_before;
 use crate::lay_behind::lay_behind;
 use crate::names::name_of;
@@ -50,6 +51,15 @@ pub struct JumpBlocks<W> {
     pub between: Block<W>,
     /// Behind all.
     pub back: Block<W>,
+}
+
+/// The pieces of own code, each a block.
+#[derive(Drop)]
+struct OwnBlocks<W> {
+    /// Before the codes of the nodes inside.
+    before: Block<W>,
+    /// Behind them.
+    behind: Block<W>,
 }
 
 impl<W> Model for OwnCode<W> {
@@ -162,19 +172,10 @@ impl<W: Work> OwnCode<W> {
         ensures counts { let pieces = (own_code_by (M.marks marks.now) (D.items scope.now) node.now.label).pieces in
             EmitsAtMost (length pieces.before + length pieces.behind) (W.counts work.old) (W.counts work.new) }
     {
-        let items = procedure_items(alloc, scope, node)?;
-        let before = block_before(alloc, node, marks, &items, work)?;
-        let behind = block_behind(alloc, node, marks, work)?;
-        Ok(OwnCode {
-            slot: node.slot(),
-            kind: node.kind(),
-            name: copy_of(name_to_call(node)),
-            counter: copy_of(counter_name(node)),
-            all_stopped: suspension(node, marks).is_some(),
-            one_stopped: first_suspension(node, marks).is_some(),
-            before,
-            behind,
-        })
+        match own_blocks(alloc, node, marks, scope, work) {
+            Ok(blocks) => Ok(blocks.into_own_code(node, marks)),
+            Err(error) => Err(error),
+        }
     }
 
     /// The jumps of this own code, where the first code inside has one length, and the others together have another.
@@ -211,14 +212,8 @@ impl<W: Work> OwnCode<W> {
             first,
             others,
         );
-        let ahead = jump_block(alloc, jumps.ahead, work)?;
-        let between = jump_block(alloc, jumps.between, work)?;
-        let back = jump_block(alloc, jumps.back, work)?;
-        Ok(JumpBlocks {
-            ahead,
-            between,
-            back,
-        })
+        let blocks = jump_blocks(alloc, jumps, work)?;
+        Ok(blocks)
     }
 
     /// The variable with which the node counts, if its own code keeps one.
@@ -226,6 +221,33 @@ impl<W: Work> OwnCode<W> {
         ensures { option_map (λ name. name.now) result ≡ self.now.counter }
     {
         self.counter.as_ref()
+    }
+}
+
+impl<W> OwnBlocks<W> {
+    /// The own code of the node by these marks, of which these are the pieces.
+    fn into_own_code<M: Marked>(self, node: &Node, marks: &M) -> OwnCode<W>
+        requires few { length node.now.label.parts < 256 }
+        ensures { result ≡ record {
+          slot = node.now.label.slot;
+          kind = node.now.label.kind;
+          name = name_to_call (heading_of node.now.label.kind node.now.label.parts);
+          counter = counter_name (part_at node.now.label.parts 0);
+          all_stopped = is_some (suspension (M.marks marks.now) node.now.label.slot node.now.label.parts);
+          one_stopped = is_some (suspension (M.marks marks.now) node.now.label.slot (take 1 node.now.label.parts));
+          pieces = record { before = self.before; behind = self.behind };
+        } }
+    {
+        OwnCode {
+            slot: node.slot(),
+            kind: node.kind(),
+            name: copy_of(name_to_call(node)),
+            counter: copy_of(counter_name(node)),
+            all_stopped: suspension(node, marks).is_some(),
+            one_stopped: first_suspension(node, marks).is_some(),
+            before: self.before,
+            behind: self.behind,
+        }
     }
 }
 
@@ -251,6 +273,50 @@ fn copy_of(name: Option<&Name>) -> Option<Name>
         Some(name) => Some(name_of(name)),
         None => None,
     }
+}
+
+/// The pieces of the own code of the node, by these marks and these effective items. They are emitted.
+fn own_blocks<W: Work, M: Marked, D: Scope>(
+    alloc: Global,
+    node: &Node,
+    marks: &M,
+    scope: &D,
+    work: &mut W,
+) -> Result<OwnBlocks<W>, OutOfMemory>
+    requires few { length node.now.label.parts < 256 }
+    ensures before { IfOk result (λ blocks. blocks.before
+        ≡ (pieces (M.marks marks.now) (D.items scope.now) node.now.label).before) }
+    ensures behind { IfOk result (λ blocks. blocks.behind
+        ≡ (pieces (M.marks marks.now) (D.items scope.now) node.now.label).behind) }
+    ensures counted { let pieces = pieces (M.marks marks.now) (D.items scope.now) node.now.label in
+        OnOk result (Emits (length pieces.before + length pieces.behind) (W.counts work.old) (W.counts work.new)) }
+    ensures counts { let pieces = pieces (M.marks marks.now) (D.items scope.now) node.now.label in
+        EmitsAtMost (length pieces.before + length pieces.behind) (W.counts work.old) (W.counts work.new) }
+{
+    let before = block_before_by_scope(alloc, node, marks, scope, work)?;
+    let behind = block_behind(alloc, node, marks, work)?;
+    Ok(OwnBlocks { before, behind })
+}
+
+/// The block of what stands in the own code of a node before the codes of the nodes inside it, by the effective items
+/// of the program.
+fn block_before_by_scope<W: Work, M: Marked, D: Scope>(
+    alloc: Global,
+    node: &Node,
+    marks: &M,
+    scope: &D,
+    work: &mut W,
+) -> Result<Block<W>, OutOfMemory>
+    requires few { length node.now.label.parts < 256 }
+    ensures code { IfOk result (λ block. block
+        ≡ (pieces (M.marks marks.now) (D.items scope.now) node.now.label).before) }
+    ensures counted { OnOk result (Emits (length (pieces (M.marks marks.now) (D.items scope.now) node.now.label).before)
+        (W.counts work.old) (W.counts work.new)) }
+    ensures counts { EmitsAtMost (length (pieces (M.marks marks.now) (D.items scope.now) node.now.label).before)
+        (W.counts work.old) (W.counts work.new) }
+{
+    let items = procedure_items(alloc, scope, node)?;
+    block_before(alloc, node, marks, &items, work)
 }
 
 /// The block of what stands in the own code of a node before the codes of the nodes inside it.
@@ -291,6 +357,33 @@ fn block_behind<W: Work, M: Marked>(
     lay_behind(node, marks, &mut draft, work);
     draft.end()?;
     Ok(draft.into_block())
+}
+
+/// The jumps of own code, each a block. They are emitted.
+fn jump_blocks<W: Work>(
+    alloc: Global,
+    jumps: Jumps,
+    work: &mut W,
+) -> Result<JumpBlocks<W>, OutOfMemory>
+    ensures ahead { IfOk result (λ blocks. blocks.ahead ≡ option_to_list (plain_jumps jumps).ahead) }
+    ensures between { IfOk result (λ blocks. blocks.between ≡ option_to_list (plain_jumps jumps).between) }
+    ensures back { IfOk result (λ blocks. blocks.back ≡ option_to_list (plain_jumps jumps).back) }
+    ensures counted { IfOk result (λ blocks. Emits
+        (length blocks.ahead + length blocks.between + length blocks.back)
+        (W.counts work.old) (W.counts work.new)) }
+    ensures counts { let plain = plain_jumps jumps in
+        EmitsAtMost (length (option_to_list plain.ahead)
+        + (length (option_to_list plain.between) + length (option_to_list plain.back)))
+        (W.counts work.old) (W.counts work.new) }
+{
+    let ahead = jump_block(alloc, jumps.ahead, work)?;
+    let between = jump_block(alloc, jumps.between, work)?;
+    let back = jump_block(alloc, jumps.back, work)?;
+    Ok(JumpBlocks {
+        ahead,
+        between,
+        back,
+    })
 }
 
 /// The block of a jump, of one instruction or none.

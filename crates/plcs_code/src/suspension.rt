@@ -5,38 +5,60 @@ ghost use Rattle.template_tree.specs.Checks.Mention.{phrase_at};
 ghost use Rattle.template_tree.specs.Programs.PlainPhrasePlace.{plain_phrase_place};
 ghost use Rattle.plcs_code.specs.Pieces.{has_empty, has_marked_part, suspension};
 ghost use Rattle.plcs_code.specs.PlainInstr.{plain_instr};
+ghost use Rattle.plcs_code.specs.Private.PlainHalt.{plain_halt};
 
 use crate::instr::Instr;
 use plcs_base::{Marked, PhraseAt};
 use template_tree::{Node, PhrasePlace};
 
+/// What stops a run at a node, in place of a piece of its code.
+#[derive(Clone, Copy)]
+pub(crate) enum Halt {
+    /// A phrase isn't there yet.
+    Placeholder,
+    /// A phrase is marked.
+    Marked,
+}
+
+impl Halt {
+    /// The instruction that stops the run.
+    pub(crate) fn instr(self) -> Instr
+        ensures { plain_instr result ≡ plain_halt self }
+    {
+        match self {
+            Halt::Placeholder => Instr::SuspendPlaceholder,
+            Halt::Marked => Instr::SuspendMarked,
+        }
+    }
+}
+
 /// What stops a run that needs all parts of the node: one that is empty, or else one that is marked.
-pub(crate) fn suspension<M: Marked>(node: &Node, marks: &M) -> Option<Instr>
+pub(crate) fn suspension<M: Marked>(node: &Node, marks: &M) -> Option<Halt>
     requires few { length node.now.label.parts < 256 }
-    ensures { option_map plain_instr result ≡ suspension (M.marks marks.now) node.now.label.slot node.now.label.parts }
+    ensures { option_map plain_halt result ≡ suspension (M.marks marks.now) node.now.label.slot node.now.label.parts }
 {
     if has_empty(node) {
-        return Some(Instr::SuspendPlaceholder);
+        return Some(Halt::Placeholder);
     }
     if has_marked_part(node, marks) {
-        return Some(Instr::SuspendMarked);
+        return Some(Halt::Marked);
     }
     None
 }
 
 /// What stops a run that needs the first part of the node alone.
-pub(crate) fn first_suspension<M: Marked>(node: &Node, marks: &M) -> Option<Instr>
-    ensures { option_map plain_instr result ≡ suspension (M.marks marks.now) node.now.label.slot
+pub(crate) fn first_suspension<M: Marked>(node: &Node, marks: &M) -> Option<Halt>
+    ensures { option_map plain_halt result ≡ suspension (M.marks marks.now) node.now.label.slot
         (take 1 node.now.label.parts) }
 {
     let Some(place) = node.part(0) else {
         return None;
     };
     let PhrasePlace::Filled(_) = place else {
-        return Some(Instr::SuspendPlaceholder);
+        return Some(Halt::Placeholder);
     };
     if is_marked(node, 0, marks) {
-        return Some(Instr::SuspendMarked);
+        return Some(Halt::Marked);
     }
     None
 }

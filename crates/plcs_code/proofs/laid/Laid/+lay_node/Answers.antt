@@ -3,18 +3,19 @@
 -- that are left, what is there is what will be there in the end.
 use Rattle.std.proofs.Common.{◌≡◌, ◌+◌, ◌≤◌, ◌++◌, ◌∷◌, [], List, Option, Some, drop, length, slice_get, refl, sym, ap, subst, ◌∙◌, arith}
 use Rattle.std.specs.Option.{option_to_list}
-use Rattle.std.specs.Prelude.{option_map, sum}
+use Rattle.std.specs.Prelude.{OnOk, option_map, sum}
 use Rattle.std.proofs.lemmas.Option.{slice_get_within}
 use Rattle.template_tree.specs.Programs.PlainTree.{Forest, PlainNode, forest, forest_nodes, nodes}
 use Rattle.plcs_code.specs.declared.instr.Instr.{Instr}
 use Rattle.plcs_code.specs.declared.lengths.NodeLength.{NodeLength}
+use Rattle.plcs_code.specs.declared.node_span.NodeSpan.{NodeSpan}
 use Rattle.plcs_code.specs.BlockLimit.{most_instrs}
 use Rattle.plcs_code.specs.Gen.{codes_around, node_codes, node_lengths}
 use Rattle.plcs_code.specs.PlainInstr.{plain_instr}
-use Rattle.plcs_code.specs.Private.LaidCode.{listed_lengths, with_instrs, with_nodes}
+use Rattle.plcs_code.specs.Private.LaidCode.{PlainLaid, listed_lengths, with_instrs, with_nodes, with_span}
 use Rattle.plcs_code.proofs.LaidNodes.{nodes_none}
 use Rattle.plcs_code.proofs.LaidSteps.{front_broke, inside_broke, length_is, lengths_behind, lengths_sum, node_counted, node_done, nodes_done, nodes_total, rest_broke, same_behind}
-use Rattle.plcs_code.proofs.Laying.{emits_both, emits_break, emits_nothing}
+use Rattle.plcs_code.proofs.Laying.{emits_both, emits_break, emits_nothing, ok_always, ok_then}
 use Rattle.plcs_code.proofs.ReadParts.{left_none}
 use Rattle.plcs_code.proofs.laid.Laid.+lay_node.Goals as goal
 
@@ -29,7 +30,7 @@ lay_node-returns-in_err-behind-clause-counts g t c =
     let taken = c.in-Some.length in
     let is =
     length_is marks items label inner taken c.args.lengths.now c.next.new.self c.requires.lengths.0 c.in-Some.ensures.next c.requires.lengths.1 in
-    front_broke marks items label inner taken is (g.W.Work.counts c.args.work.now) (g.W.Work.counts c.lay_front.new.work) c.lay_front.ensures.counts
+    front_broke marks items label inner taken is (g.W.Work.counts c.args.work.now) (g.W.Work.counts c.lay_head.new.work) c.lay_head.ensures.counts
 
 pub lay_node-returns-in_err-lay_inside-clause-counts : goal.lay_node-returns-in_err-lay_inside-clause-counts
 lay_node-returns-in_err-lay_inside-clause-counts g t c =
@@ -43,23 +44,8 @@ lay_node-returns-in_err-lay_inside-clause-counts g t c =
     let behind = c.in_ok-behind.behind in
     let between = option_map plain_instr behind.between in
     let back = option_map plain_instr behind.back in
-    inside_broke marks items label inner taken is between back c.in_ok-behind.ensures.between c.in_ok-behind.ensures.back (g.W.Work.counts c.args.work.now) (g.W.Work.counts c.lay_front.new.work) c.in_ok-behind.ensures.counted
+    inside_broke marks items label inner taken is between back c.in_ok-behind.ensures.between c.in_ok-behind.ensures.back (g.W.Work.counts c.args.work.now) (g.W.Work.counts c.lay_head.new.work) c.in_ok-behind.ensures.counted
     (g.W.Work.counts c.lay_inside.new.work) c.lay_inside.ensures.counts
-
-pub lay_node-returns-in_err-lay_rest-clause-counts : goal.lay_node-returns-in_err-lay_rest-clause-counts
-lay_node-returns-in_err-lay_rest-clause-counts g t c =
-    let marks = g.M.Marked.marks c.args.marks.now in
-    let items = g.D.Scope.items c.args.scope.now in
-    let label = c.args.node.now.label in
-    let inner = c.args.node.now.inner in
-    let taken = c.in-Some.length in
-    let is =
-    length_is marks items label inner taken c.args.lengths.now c.next.new.self c.requires.lengths.0 c.in-Some.ensures.next c.requires.lengths.1 in
-    let behind = c.in_ok-behind.behind in
-    let between = option_map plain_instr behind.between in
-    let back = option_map plain_instr behind.back in
-    rest_broke marks items label inner taken is between back c.in_ok-behind.ensures.between c.in_ok-behind.ensures.back (g.W.Work.counts c.args.work.now) (g.W.Work.counts c.lay_front.new.work) c.in_ok-behind.ensures.counted
-    (g.W.Work.counts c.lay_inside.new.work) (g.W.Work.counts c.lay_rest.new.work) c.in_ok-lay_inside.ensures.counted c.lay_rest.ensures.counts
 
 pub lay_node-returns-clause-laid : goal.lay_node-returns-clause-laid
 lay_node-returns-clause-laid g t c =
@@ -73,8 +59,11 @@ lay_node-returns-clause-laid g t c =
     let behind = c.in_ok-behind.behind in
     let between = option_map plain_instr behind.between in
     let back = option_map plain_instr behind.back in
-    node_done marks items label inner taken is between back c.in_ok-behind.ensures.between c.in_ok-behind.ensures.back c.args.self.now c.begin.new.self c.lay_front.new.self c.lay_inside.new.self c.lay_rest.new.self
-    c.in_ok-begin.ensures c.in_ok-behind.ensures.laid c.in_ok-lay_inside.ensures.laid c.in_ok-lay_rest.ensures.laid
+    let span : NodeSpan =
+    record { slot = record { 0 = label.slot }; kind = label.kind; start = length c.args.self.now.instrs; length = taken.whole } in
+    ok_then c.lay_rest.result
+    (node_done marks items label inner taken is between back c.in_ok-behind.ensures.between c.in_ok-behind.ensures.back c.args.self.now (with_span span c.args.self.now) c.lay_head.new.self c.lay_inside.new.self c.lay_rest.new.self
+    refl c.in_ok-behind.ensures.laid c.in_ok-lay_inside.ensures.laid) c.lay_rest.ensures.laid
 
 pub lay_node-returns-clause-counted : goal.lay_node-returns-clause-counted
 lay_node-returns-clause-counted g t c =
@@ -88,8 +77,9 @@ lay_node-returns-clause-counted g t c =
     let behind = c.in_ok-behind.behind in
     let between = option_map plain_instr behind.between in
     let back = option_map plain_instr behind.back in
-    node_counted marks items label inner taken is between back c.in_ok-behind.ensures.between c.in_ok-behind.ensures.back (g.W.Work.counts c.args.work.now) (g.W.Work.counts c.lay_front.new.work) c.in_ok-behind.ensures.counted
-    (g.W.Work.counts c.lay_inside.new.work) (g.W.Work.counts c.lay_rest.new.work) c.in_ok-lay_inside.ensures.counted c.in_ok-lay_rest.ensures.counted
+    ok_then c.lay_rest.result
+    (node_counted marks items label inner taken is between back c.in_ok-behind.ensures.between c.in_ok-behind.ensures.back (g.W.Work.counts c.args.work.now) (g.W.Work.counts c.lay_head.new.work) c.in_ok-behind.ensures.counted
+    (g.W.Work.counts c.lay_inside.new.work) (g.W.Work.counts c.lay_rest.new.work) c.in_ok-lay_inside.ensures.counted) c.lay_rest.ensures.counted
 
 pub lay_node-returns-clause-counts : goal.lay_node-returns-clause-counts
 lay_node-returns-clause-counts g t c =
@@ -103,7 +93,7 @@ lay_node-returns-clause-counts g t c =
     let behind = c.in_ok-behind.behind in
     let between = option_map plain_instr behind.between in
     let back = option_map plain_instr behind.back in
-    rest_broke marks items label inner taken is between back c.in_ok-behind.ensures.between c.in_ok-behind.ensures.back (g.W.Work.counts c.args.work.now) (g.W.Work.counts c.lay_front.new.work) c.in_ok-behind.ensures.counted
+    rest_broke marks items label inner taken is between back c.in_ok-behind.ensures.between c.in_ok-behind.ensures.back (g.W.Work.counts c.args.work.now) (g.W.Work.counts c.lay_head.new.work) c.in_ok-behind.ensures.counted
     (g.W.Work.counts c.lay_inside.new.work) (g.W.Work.counts c.lay_rest.new.work) c.in_ok-lay_inside.ensures.counted c.lay_rest.ensures.counts
 
 -- ---- nodes in turn
@@ -261,10 +251,11 @@ lay_inside-returns-clause-laid g t c =
     let inner = c.args.node.now.inner in
     let between = option_to_list (option_map plain_instr c.loop-child.jump) in
     let none = left_none (nodes inner) c.loop-child.k (sym c.in_default.ensures) in
-    c.in_ok-lay_jump-2.ensures.laid
-    ∙ nodes_none marks items between c.loop-child.self
+    subst (λ (l : PlainLaid). OnOk c.lay_jump-2.result (c.lay_jump-2.new.self ≡ l))
+    (nodes_none marks items between c.loop-child.self
     ∙ ap (λ (ns : List PlainNode). with_nodes marks items between (forest ns) c.loop-child.self) (sym none)
-    ∙ c.loop-child.invariant.laid
+    ∙ c.loop-child.invariant.laid)
+    c.lay_jump-2.ensures.laid
 
 pub lay_inside-returns-clause-lengths : goal.lay_inside-returns-clause-lengths
 lay_inside-returns-clause-lengths g t c =
@@ -275,19 +266,8 @@ lay_inside-returns-clause-lengths g t c =
     let left : c.loop-child.lengths ≡ c.loop-child.invariant.lengths.0 =
     c.loop-child.invariant.lengths.1
     ∙ ap (λ (ns : List PlainNode). listed_lengths marks items (forest ns) ++ c.loop-child.invariant.lengths.0) none in
-    c.loop-child.invariant.lengths.2 ∙ ap (λ (ls : List NodeLength). listed_lengths marks items inner ++ ls) (sym left)
-
-pub lay_inside-returns-in_err-lay_jump-2-clause-counts : goal.lay_inside-returns-in_err-lay_jump-2-clause-counts
-lay_inside-returns-in_err-lay_jump-2-clause-counts g t c =
-    let marks = g.M.Marked.marks c.args.marks.now in
-    let items = g.D.Scope.items c.args.scope.now in
-    let inner = c.args.node.now.inner in
-    let between = option_to_list (option_map plain_instr c.loop-child.jump) in
-    let none = left_none (nodes inner) c.loop-child.k (sym c.in_default.ensures) in
-    let left = ap (λ (ns : List PlainNode). length (codes_around between (node_codes marks items (forest ns)))) none in
-    let whole = length (codes_around (option_to_list (option_map plain_instr c.args.between)) (node_codes marks items inner)) in
-    emits_break c.loop-child.invariant.counts.0 (length between) whole (g.W.Work.counts c.args.work.now) (g.W.Work.counts c.loop-child.work)
-    (g.W.Work.counts c.lay_jump-2.new.work) (omega (arith, left, c.loop-child.invariant.counts.1)) c.loop-child.invariant.counts.2 c.lay_jump-2.ensures.counts
+    ok_always c.lay_jump-2.result
+    (c.loop-child.invariant.lengths.2 ∙ ap (λ (ls : List NodeLength). listed_lengths marks items inner ++ ls) (sym left))
 
 pub lay_inside-returns-clause-counted : goal.lay_inside-returns-clause-counted
 lay_inside-returns-clause-counted g t c =
@@ -298,9 +278,10 @@ lay_inside-returns-clause-counted g t c =
     let none = left_none (nodes inner) c.loop-child.k (sym c.in_default.ensures) in
     let left = ap (λ (ns : List PlainNode). length (codes_around between (node_codes marks items (forest ns)))) none in
     let whole = length (codes_around (option_to_list (option_map plain_instr c.args.between)) (node_codes marks items inner)) in
-    emits_both c.loop-child.invariant.counts.0 (length between) whole (g.W.Work.counts c.args.work.now) (g.W.Work.counts c.loop-child.work)
-    (g.W.Work.counts c.lay_jump-2.new.work) (omega (arith, left, c.loop-child.invariant.counts.1)) c.loop-child.invariant.counts.2
-    c.in_ok-lay_jump-2.ensures.counted
+    ok_then c.lay_jump-2.result
+    (emits_both c.loop-child.invariant.counts.0 (length between) whole (g.W.Work.counts c.args.work.now) (g.W.Work.counts c.loop-child.work)
+    (g.W.Work.counts c.lay_jump-2.new.work) (omega (arith, left, c.loop-child.invariant.counts.1)) c.loop-child.invariant.counts.2)
+    c.lay_jump-2.ensures.counted
 
 pub lay_inside-returns-clause-counts : goal.lay_inside-returns-clause-counts
 lay_inside-returns-clause-counts g t c =

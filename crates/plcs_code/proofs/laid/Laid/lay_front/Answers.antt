@@ -1,14 +1,113 @@
-use Rattle.std.proofs.Common.{ℕ, List, length, ap, ◌∙◌}
-use Rattle.plcs_base.specs.declared.declared.Declared.{Declared}
-use Rattle.plcs_code.specs.Pieces.{CodeJumps, CodePieces, own_jumps, own_pieces}
+-- What is laid before the nodes inside is one piece and one jump behind it, whose lengths add up.
+use Rattle.std.proofs.Common.{◌≡◌, ℕ, ◌++◌, List, length, ap, ◌∙◌, arith, append_assoc}
+use Rattle.std.specs.Option.{option_to_list}
+use Rattle.std.proofs.lemmas.List.{length-append}
+use Rattle.plcs_code.specs.Pieces.{CodeJumps, own_jumps, pieces}
+use Rattle.plcs_code.specs.PlainInstr.{PlainInstr}
+use Rattle.plcs_code.specs.Private.LaidCode.{PlainLaid, jumps_by, with_instrs}
+use Rattle.plcs_code.specs.Private.PlainJumps.{plain_jumps}
+use Rattle.plcs_code.proofs.LaidSteps.{emits_more}
+use Rattle.plcs_code.proofs.Laying.{emits_both, emits_break}
 use Rattle.plcs_code.proofs.laid.Laid.lay_front.Goals as goal
+
+pub returns-in_err-before-clause-counts : goal.returns-in_err-before-clause-counts
+returns-in_err-before-clause-counts g c =
+    let marks = g.M.Marked.marks c.args.marks.now in
+    let items = g.D.Scope.items c.args.scope.now in
+    let label = c.args.node.now.label in
+    let lengths = c.args.lengths in
+    let before = (pieces marks items label).before in
+    let ahead = option_to_list (jumps_by marks items label lengths).ahead in
+    let u = g.W.Work.counts c.args.work.now in
+    let v = g.W.Work.counts c.lay_before_by_scope.new.work in
+    emits_more (length before) (length (before ++ ahead)) u v (omega (arith, length-append before ahead)) c.lay_before_by_scope.ensures.counts
+
+pub returns-in_err-lay_jump-clause-counts : goal.returns-in_err-lay_jump-clause-counts
+returns-in_err-lay_jump-clause-counts g c =
+    let marks = g.M.Marked.marks c.args.marks.now in
+    let items = g.D.Scope.items c.args.scope.now in
+    let label = c.args.node.now.label in
+    let lengths = c.args.lengths in
+    let around : plain_jumps c.own_jumps-jumps.result ≡ jumps_by marks items label lengths =
+    c.own_jumps-jumps.ensures ∙ ap (λ (n : ℕ). own_jumps marks label n lengths.first lengths.others) c.in_ok-before.ensures.length in
+    let before = (pieces marks items label).before in
+    let ahead = option_to_list (jumps_by marks items label lengths).ahead in
+    let u = g.W.Work.counts c.args.work.now in
+    let v = g.W.Work.counts c.lay_before_by_scope.new.work in
+    let w = g.W.Work.counts c.lay_jump.new.work in
+    let jump = length (option_to_list (plain_jumps c.own_jumps-jumps.result).ahead) in
+    let same : jump ≡ length ahead = ap (λ (j : CodeJumps). length (option_to_list j.ahead)) around in
+    emits_break (length before) jump (length (before ++ ahead)) u v w (omega (arith, length-append before ahead, same))
+    c.in_ok-before.ensures.counted c.lay_jump.ensures.counts
+
+pub returns-clause-laid : goal.returns-clause-laid
+returns-clause-laid g c =
+    let marks = g.M.Marked.marks c.args.marks.now in
+    let items = g.D.Scope.items c.args.scope.now in
+    let label = c.args.node.now.label in
+    let lengths = c.args.lengths in
+    let around : plain_jumps c.own_jumps-jumps.result ≡ jumps_by marks items label lengths =
+    c.own_jumps-jumps.ensures ∙ ap (λ (n : ℕ). own_jumps marks label n lengths.first lengths.others) c.in_ok-before.ensures.length in
+    let before = (pieces marks items label).before in
+    let ahead = option_to_list (jumps_by marks items label lengths).ahead in
+    c.in_ok-lay_jump.ensures.laid
+    ∙ ap (λ (j : CodeJumps). with_instrs (option_to_list j.ahead) c.lay_before_by_scope.new.self) around
+    ∙ ap (λ (l : PlainLaid). with_instrs ahead l) c.in_ok-before.ensures.laid
+    ∙ ap (λ (instrs : List PlainInstr). let laid : PlainLaid = record { instrs = instrs; spans = c.args.self.now.spans } in laid)
+    (append_assoc c.args.self.now.instrs before ahead)
+
+pub returns-clause-between : goal.returns-clause-between
+returns-clause-between g c =
+    let marks = g.M.Marked.marks c.args.marks.now in
+    let items = g.D.Scope.items c.args.scope.now in
+    let label = c.args.node.now.label in
+    let lengths = c.args.lengths in
+    let around : plain_jumps c.own_jumps-jumps.result ≡ jumps_by marks items label lengths =
+    c.own_jumps-jumps.ensures ∙ ap (λ (n : ℕ). own_jumps marks label n lengths.first lengths.others) c.in_ok-before.ensures.length in
+    ap (λ (j : CodeJumps). j.between) around
 
 pub returns-clause-back : goal.returns-clause-back
 returns-clause-back g c =
     let marks = g.M.Marked.marks c.args.marks.now in
+    let items = g.D.Scope.items c.args.scope.now in
     let label = c.args.node.now.label in
-    ap (λ (jumps : CodeJumps). jumps.back) c.own_jumps-jumps.ensures
-    ∙ ap (λ (n : ℕ). (own_jumps marks label n c.args.lengths.first c.args.lengths.others).back)
-    (c.in_ok-before.ensures.length
-    ∙ ap (λ (items : List Declared). length (own_pieces marks items label).before) c.deref.ensures.value
-    ∙ ap (λ (own : CodePieces). length own.before) (c.in_ok-items.ensures marks))
+    let lengths = c.args.lengths in
+    let around : plain_jumps c.own_jumps-jumps.result ≡ jumps_by marks items label lengths =
+    c.own_jumps-jumps.ensures ∙ ap (λ (n : ℕ). own_jumps marks label n lengths.first lengths.others) c.in_ok-before.ensures.length in
+    ap (λ (j : CodeJumps). j.back) around
+
+pub returns-clause-counted : goal.returns-clause-counted
+returns-clause-counted g c =
+    let marks = g.M.Marked.marks c.args.marks.now in
+    let items = g.D.Scope.items c.args.scope.now in
+    let label = c.args.node.now.label in
+    let lengths = c.args.lengths in
+    let around : plain_jumps c.own_jumps-jumps.result ≡ jumps_by marks items label lengths =
+    c.own_jumps-jumps.ensures ∙ ap (λ (n : ℕ). own_jumps marks label n lengths.first lengths.others) c.in_ok-before.ensures.length in
+    let before = (pieces marks items label).before in
+    let ahead = option_to_list (jumps_by marks items label lengths).ahead in
+    let u = g.W.Work.counts c.args.work.now in
+    let v = g.W.Work.counts c.lay_before_by_scope.new.work in
+    let w = g.W.Work.counts c.lay_jump.new.work in
+    let jump = length (option_to_list (plain_jumps c.own_jumps-jumps.result).ahead) in
+    let same : jump ≡ length ahead = ap (λ (j : CodeJumps). length (option_to_list j.ahead)) around in
+    emits_both (length before) jump (length (before ++ ahead)) u v w (omega (arith, length-append before ahead, same))
+    c.in_ok-before.ensures.counted c.in_ok-lay_jump.ensures.counted
+
+pub returns-clause-counts : goal.returns-clause-counts
+returns-clause-counts g c =
+    let marks = g.M.Marked.marks c.args.marks.now in
+    let items = g.D.Scope.items c.args.scope.now in
+    let label = c.args.node.now.label in
+    let lengths = c.args.lengths in
+    let around : plain_jumps c.own_jumps-jumps.result ≡ jumps_by marks items label lengths =
+    c.own_jumps-jumps.ensures ∙ ap (λ (n : ℕ). own_jumps marks label n lengths.first lengths.others) c.in_ok-before.ensures.length in
+    let before = (pieces marks items label).before in
+    let ahead = option_to_list (jumps_by marks items label lengths).ahead in
+    let u = g.W.Work.counts c.args.work.now in
+    let v = g.W.Work.counts c.lay_before_by_scope.new.work in
+    let w = g.W.Work.counts c.lay_jump.new.work in
+    let jump = length (option_to_list (plain_jumps c.own_jumps-jumps.result).ahead) in
+    let same : jump ≡ length ahead = ap (λ (j : CodeJumps). length (option_to_list j.ahead)) around in
+    emits_break (length before) jump (length (before ++ ahead)) u v w (omega (arith, length-append before ahead, same))
+    c.in_ok-before.ensures.counted c.lay_jump.ensures.counts
