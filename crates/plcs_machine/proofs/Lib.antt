@@ -49,6 +49,8 @@ pub mod DoneSteps
 pub mod WrittenSteps
 -- `step`: a step that calls
 pub mod CalledSteps
+-- `quotient`, `infix_numbers` and `iterate`: whole numbers, computed with
+pub mod WholeNumbers
 -- `text_order`: the order from a byte on
 pub mod TextOrders
 -- `found_in`: where a text is found from a byte on

@@ -183,7 +183,6 @@ fn text_from(x: &TextValue, i: i32) -> Result<Option<Value>, FaultKind>
 }
 
 /// `SUBSTR` with three arguments: so many bytes of a text from the i-th on.
-#[tactic(auto, using(crate::proofs::TextParts::part_given))]
 fn text_part(x: &TextValue, i: i32, k: i32) -> Result<Option<Value>, FaultKind>
     ensures { answer_outcome result ≡ text_part x.now i k }
 {

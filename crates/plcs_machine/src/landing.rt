@@ -86,12 +86,16 @@ pub(crate) fn first_place_in<W: Work, C: CodeView<W>>(
                 let Some((argument, others)) = given.split_first() else {
                     unreachable!()
                 };
-                add_parameter(alloc, name, *ty, argument, cells)?;
+                let Ok(()) = add_parameter(alloc, name, *ty, argument, cells) else {
+                    return Err(OutOfMemory);
+                };
                 given = others;
                 at += 1;
             }
             Instr::Cell(name, ty, size) => {
-                add_unset(alloc, name, *ty, *size, cells)?;
+                let Ok(()) = add_unset(alloc, name, *ty, *size, cells) else {
+                    return Err(OutOfMemory);
+                };
                 at += 1;
             }
             _ => unreachable!(),
@@ -117,7 +121,7 @@ fn add_parameter(
 }
 
 /// On the way from the entry of a procedure, adds a variable of the type and the size, whose cells aren't set.
-fn add_unset(
+pub(crate) fn add_unset(
     alloc: Global,
     name: &Name,
     ty: ItemType,

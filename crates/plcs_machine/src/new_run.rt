@@ -5,10 +5,11 @@ ghost use Rattle.plcs_machine.specs.Enter.{Enter, begun_in};
 ghost use Rattle.plcs_machine.specs.Fetched.{FetchesAtMost, FetchesBy, fetches_of, result_of};
 ghost use Rattle.plcs_machine.specs.Passing.{Landing};
 
+use crate::landing::add_unset;
 use plcs_base::{OutOfMemory, Place, Slot, Work};
 use plcs_code::{CodeView, Instr};
 use plcs_store::{
-    Arguments, Cells, Frame, Frames, Loops, OperandValues, Operands, Output, RunState, Variable,
+    Arguments, Cells, Frame, Frames, Loops, OperandValues, Operands, Output, RunState,
 };
 use std::alloc::Global;
 
@@ -28,19 +29,50 @@ pub fn start<W: Work, C: CodeView<W>>(
         (W.counts work.old) (W.counts work.new)) }
     ensures counts { FetchesAtMost (fetches_of (Enter (C.code code.now))) (W.counts work.old) (W.counts work.new) }
 {
-    let mut frames = Frames::new(alloc)?;
-    let output = Output::new(alloc)?;
-    let operands = Operands {
-        values: OperandValues::new(alloc)?,
-        arguments: Arguments::new(alloc)?,
+    let Ok(mut state) = unbegun(alloc) else {
+        return Err(OutOfMemory);
     };
-    frames.push(first_frame(alloc, code, work)?);
+    let Ok(frame) = first_frame(alloc, code, work) else {
+        return Err(OutOfMemory);
+    };
+    state.frames.push(frame);
+    Ok(state)
+}
+
+/// The state before a run begins: no frame stands, and nothing was taken or written.
+fn unbegun(alloc: Global) -> Result<RunState, OutOfMemory>
+    ensures before { IfOk result (λ state. plain_configuration state
+        ≡ record { frames = []; taken = 0; output = [] }) }
+    ensures ready { IfOk result (λ state. (state.operands.values ≡ []) × (state.operands.arguments ≡ [])) }
+{
+    let Ok(frames) = Frames::new(alloc) else {
+        return Err(OutOfMemory);
+    };
+    let Ok(output) = Output::new(alloc) else {
+        return Err(OutOfMemory);
+    };
+    let Ok(operands) = no_operands(alloc) else {
+        return Err(OutOfMemory);
+    };
     Ok(RunState {
         frames,
         taken: 0,
         output,
         operands,
     })
+}
+
+/// The room for what a step works on, with nothing in it.
+fn no_operands(alloc: Global) -> Result<Operands, OutOfMemory>
+    ensures { IfOk result (λ operands. (operands.values ≡ []) × (operands.arguments ≡ [])) }
+{
+    let Ok(values) = OperandValues::new(alloc) else {
+        return Err(OutOfMemory);
+    };
+    let Ok(arguments) = Arguments::new(alloc) else {
+        return Err(OutOfMemory);
+    };
+    Ok(Operands { values, arguments })
 }
 
 /// Main's frame at its first place, with no cell set.
@@ -56,9 +88,13 @@ fn first_frame<W: Work, C: CodeView<W>>(
         (W.counts work.old) (W.counts work.new)) }
     ensures counts { FetchesAtMost (fetches_of (Enter (C.code code.now))) (W.counts work.old) (W.counts work.new) }
 {
-    let loops = Loops::new(alloc)?;
+    let Ok(loops) = Loops::new(alloc) else {
+        return Err(OutOfMemory);
+    };
     let mut cells = Cells::new(alloc);
-    let place = first_place(alloc, code, &mut cells, work)?;
+    let Ok(place) = first_place(alloc, code, &mut cells, work) else {
+        return Err(OutOfMemory);
+    };
     Ok(Frame {
         procedure: Slot(0),
         place,
@@ -87,7 +123,9 @@ fn first_place<W: Work, C: CodeView<W>>(
         match code.fetch(address, work).instr() {
             Instr::At(place) => return Ok(*place),
             Instr::Cell(name, ty, size) => {
-                cells.add(name.copy(), Variable::unset(alloc, *ty, *size)?)?
+                let Ok(()) = add_unset(alloc, name, *ty, *size, cells) else {
+                    return Err(OutOfMemory);
+                };
             }
             _ => unreachable!(),
         }

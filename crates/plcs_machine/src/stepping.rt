@@ -7,14 +7,16 @@ ghost use Rattle.plcs_machine.specs.Exec.{Exec};
 ghost use Rattle.plcs_machine.specs.Fetched.{FetchesAtMost, FetchesBy, fetches_of, result_of};
 ghost use Rattle.plcs_machine.specs.Lead.{newest_arguments};
 ghost use Rattle.plcs_machine.specs.StepMade.{MakesFrame, NothingChanges, StepChanges, step_answered};
-ghost use Rattle.plcs_machine.specs.Private.DoableLead.{IsDoable};
-ghost use Rattle.plcs_machine.specs.Private.PlainLed.{TakesAtMost, plain_led};
+ghost use Rattle.plcs_machine.specs.declared.led.Led.{Led};
+ghost use Rattle.plcs_machine.specs.Private.DoableLead.{ActsOn, IsDoable};
+ghost use Rattle.plcs_machine.specs.Private.PlainLed.{TakesAtMost, plain_act, plain_led};
 ghost use Rattle.plcs_machine.specs.Private.WalkedStep.{IsDone, IsStateKept, IsWalked, called_answer, led_answer, more_fetches, output_then, put_answer, read_answer, run_at, walked_answer, walked_outcome, with_output_if};
 
 use crate::acts::{act_on, read_into};
 use crate::landing::{first_place_in, next_place};
 use crate::lead::lead;
 use crate::led::{Doing, Led, Walked, next_address};
+use crate::step_act::StepAct;
 use crate::step_answer::StepAnswer;
 use crate::walk_end::WalkEnd;
 use plcs_base::{OutOfMemory, Place, Point, Value, Work};
@@ -219,7 +221,7 @@ fn put<W: Work, C: CodeView<W>>(
         state
             .frames
             .set_place(next_place(code, end.left, end.next, work));
-        *undo = Undo::Wrote(end.from, before as u32);
+        note(undo, Undo::Wrote(end.from, before as u32));
         return StepAnswer::Stepped;
     }
     StepAnswer::Stopped(Reason::Fault(FaultKind::OutputLimit))
@@ -259,7 +261,7 @@ fn read<W: Work, C: CodeView<W>>(
         (W.counts work.old) (W.counts work.new) }
 {
     let landed = next_place(code, end.left, end.next, work);
-    *undo = read_into(state, location, value, count, end.from);
+    note(undo, read_into(state, location, value, count, end.from));
     state.frames.set_place(landed);
     StepAnswer::Stepped
 }
@@ -290,21 +292,42 @@ fn follow<W: Work, C: CodeView<W>>(
 {
     match led {
         Led::GoesOn(_) => unreachable!(),
-        Led::Acts(act, address) => {
-            let landed = next_place(code, end.left, address, work);
-            *undo = act_on(state, act, end.from);
-            state.frames.set_place(landed);
-            Ok(StepAnswer::Stepped)
-        }
+        Led::Acts(act, address) => Ok(do_act(code, act, address, end, state, undo, work)),
         Led::Enters(entry, count) => enter(alloc, code, entry, count, end, state, undo, work),
         Led::Arrives(landed) => {
             state.frames.set_place(landed);
-            *undo = Undo::Moved(end.from);
+            note(undo, Undo::Moved(end.from));
             Ok(StepAnswer::Stepped)
         }
         Led::Ends => Ok(StepAnswer::Ended),
         Led::Stops(reason) => Ok(StepAnswer::Stopped(reason)),
     }
+}
+
+/// Ends a step that does an act: the run goes on at an address, from which only jumps lead to the next place.
+fn do_act<W: Work, C: CodeView<W>>(
+    code: &C,
+    act: StepAct,
+    address: u32,
+    end: WalkEnd,
+    state: &mut RunState,
+    undo: &mut Undo,
+    work: &mut W,
+) -> StepAnswer
+    requires short { length (C.code code.now).instrs ≤ 4294967295 }
+    requires at { top_place state.old.frames ≡ Some (plain_place end.from) }
+    requires can { ActsOn state.old.frames (plain_act act) }
+    requires answered { IsSome (led_answer (C.code code.now) state.old end.left (Led.Acts act address)) }
+    ensures done { IsDone (led_answer (C.code code.now) state.old end.left (Led.Acts act address)) result
+        state.old state.new undo.old undo.new }
+    ensures counted { FetchesBy
+        (more_fetches (led_answer (C.code code.now) state.old end.left (Led.Acts act address)))
+        (W.counts work.old) (W.counts work.new) }
+{
+    let landed = next_place(code, end.left, address, work);
+    note(undo, act_on(state, act, end.from));
+    state.frames.set_place(landed);
+    StepAnswer::Stepped
 }
 
 /// Ends a step that calls: makes the frame of a procedure, which takes so many newest arguments, and goes to its
@@ -337,11 +360,13 @@ fn enter<W: Work, C: CodeView<W>>(
         (MakesFrame (called_answer (C.code code.now) state.old end.left entry count)
         (plain_configuration state.old)) }
 {
-    let loops = Loops::new(alloc)?;
+    let Ok(loops) = Loops::new(alloc) else {
+        return Err(OutOfMemory);
+    };
     let mut cells = Cells::new(alloc);
     let added = state.operands.arguments.as_slice();
     let arguments = newest_of(added, count);
-    let first = first_place_in(
+    let Ok(first) = first_place_in(
         alloc,
         code,
         end.left,
@@ -349,7 +374,9 @@ fn enter<W: Work, C: CodeView<W>>(
         arguments,
         &mut cells,
         work,
-    )?;
+    ) else {
+        return Err(OutOfMemory);
+    };
     state.frames.set_place(Place {
         slot: end.from.slot,
         point: Point(1),
@@ -360,8 +387,15 @@ fn enter<W: Work, C: CodeView<W>>(
         cells,
         loops,
     });
-    *undo = Undo::Called(end.from);
+    note(undo, Undo::Called(end.from));
     Ok(StepAnswer::Stepped)
+}
+
+/// Notes what a step did: this is then its record.
+fn note(undo: &mut Undo, notes: Undo)
+    ensures { undo.new ≡ notes }
+{
+    *undo = notes;
 }
 
 /// The newest of the arguments, so many of them or all, in the order in which they were added.

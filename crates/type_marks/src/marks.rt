@@ -90,7 +90,9 @@ impl<W: Work> Marks<W> {
             let Some(procedure) = procedure_item(tree, k) else {
                 unreachable!()
             };
-            marks.note_node(tree, decls, procedure, procedure, work)?;
+            let Ok(()) = marks.note_node(tree, decls, procedure, procedure, work) else {
+                return Err(OutOfMemory);
+            };
         }
         Ok(marks)
     }

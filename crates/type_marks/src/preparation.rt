@@ -1,10 +1,15 @@
 //! Edits of a tree, prepared in its verdicts: the phrases that are due are checked, and nothing is put in place.
-ghost use Rattle.std.specs.Prelude.{◌≡◌, ◌≤◌, IfOk, length};
+ghost use Rattle.std.specs.Prelude.{◌≡◌, ℕ, ◌+◌, ◌<◌, ◌≤◌, IfOk, List, OnOk, get_or, is_some, length, take, true};
+ghost use Rattle.std.specs.FinMap.{get};
+ghost use Rattle.plcs_base.specs.declared.place.PhraseAt.{PhraseAt};
 ghost use Rattle.plcs_base.specs.PlainCounts.{ChecksAtMost};
+ghost use Rattle.plcs_grammar.specs.PlainPhrase.{PlainPhrase};
 ghost use Rattle.template_tree.specs.Checks.Marks.{Verdicts};
+ghost use Rattle.template_tree.specs.Programs.PlainTree.{PlainNode};
 ghost use Rattle.template_tree.specs.Programs.Tree.{IsTree};
+ghost use Rattle.decl_table.specs.Knowledge.{Knows, Stands};
 ghost use Rattle.type_marks.specs.MarkEdit.{AreVerdictsBefore, HasRoomForEdit, verdicts_after};
-ghost use Rattle.type_marks.specs.Private.CheckedLists.{AreChecked, AreSamePlaces, IsDueIn};
+ghost use Rattle.type_marks.specs.Private.CheckedLists.{AreChecked, AreListsOf, AreSamePlaces, IsDueIn};
 
 use crate::due_checks::due_verdict;
 use crate::list_checks::ListChecks;
@@ -39,10 +44,16 @@ impl<W: Work> Marks<W> {
     {
         checks_ignore_room_and_elision();
         counts_add_up();
-        self.reserve(edit.due().len())?;
-        let gone = places(alloc, edit.gone())?;
-        let checked = check_due(alloc, tree, edit.decls(), edit.due(), work)?;
-        Ok(MarkEdit { checked, gone })
+        let Ok(()) = self.reserve(edit.due().len()) else {
+            return Err(OutOfMemory);
+        };
+        let Ok(gone) = places(alloc, edit.gone()) else {
+            return Err(OutOfMemory);
+        };
+        match check_due(alloc, tree, edit.decls(), edit.due(), work) {
+            Ok(checked) => Ok(MarkEdit { checked, gone }),
+            Err(_) => Err(OutOfMemory),
+        }
     }
 }
 
@@ -87,8 +98,40 @@ fn check_due<W: Work>(
     let mut phrases = IndexMap::new(alloc);
     let mut lists = ListChecks::new(alloc);
     for at in due {
-        let verdict = due_verdict(alloc, tree, decls, *at, &mut lists, work)?;
-        phrases.insert(*at, verdict)?;
+        let Ok(()) = check_one(alloc, tree, decls, *at, &mut phrases, &mut lists, work) else {
+            return Err(OutOfMemory);
+        };
     }
     Ok(phrases)
+}
+
+/// Checks the phrase at the place, which is due and counted, and keeps its verdict with those of the phrases before.
+fn check_one<W: Work>(
+    alloc: Global,
+    tree: &Tree,
+    decls: &Decls,
+    at: PhraseAt,
+    phrases: &mut IndexMap<PhraseAt, Verdict<W>>,
+    lists: &mut ListChecks,
+    work: &mut W,
+) -> Result<(), OutOfMemory>
+    requires tree { IsTree tree.now }
+    requires filled { is_some (get (Verdicts tree.now.items) at) ≡ true }
+    requires known { (procedure : PlainNode) (phrase : PlainPhrase) → Stands tree.now.items at procedure phrase
+        → Knows decls.now tree.now.items procedure phrase }
+    requires lists { AreListsOf tree.now.items lists.old.procedures.entries }
+    ensures checked { OnOk result ((due : List PhraseAt) (k : ℕ) → k < length due → at ≡ get_or due k at
+        → AreChecked tree.now.items (take k due) phrases.old.entries
+        → AreChecked tree.now.items (take (k + 1) due) phrases.new.entries) }
+    ensures few { OnOk result (length phrases.new.entries ≤ length phrases.old.entries + 1) }
+    ensures lists { OnOk result (AreListsOf tree.now.items lists.new.procedures.entries) }
+    ensures counts { ChecksAtMost 1 (W.counts work.old) (W.counts work.new) }
+{
+    let Ok(verdict) = due_verdict(alloc, tree, decls, at, lists, work) else {
+        return Err(OutOfMemory);
+    };
+    match phrases.insert(at, verdict) {
+        Ok(_) => Ok(()),
+        Err(_) => Err(OutOfMemory),
+    }
 }

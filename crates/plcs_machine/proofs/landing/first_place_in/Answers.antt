@@ -267,7 +267,7 @@ loop-left-preserved-in-Param g c =
           (sym (ap (λ (arguments : List Argument). settle frames instrs left at (Some (making_of cells arguments))) both
           ∙ (takes_one frames instrs left at c.in-Param.name c.in-Param.ty cells argument others some there
           (subst (λ (arguments : List Argument). IsSome (settle frames instrs left at (Some (making_of cells arguments)))) both
-          (left_there k (here frames) (whole frames) (c.loop-left.invariant.begun frames stands) stands))).next now c.in_ok-add_parameter-in-Param.ensures))
+          (left_there k (here frames) (whole frames) (c.loop-left.invariant.begun frames stands) stands))).next now c.in-Ok.ensures))
           ∙ c.loop-left.invariant.begun frames stands;
       counted =
           fetches_both k 1 (fetches - (left - 1)) (counts c.args.work.now) (counts c.loop-left.work) (counts c.fetch.new.work) (sym next)
@@ -293,7 +293,7 @@ loop-left-preserved g c =
     let next : fetches - (left - 1) ≡ k + 1 = omega (arith, few) in
     let counts = g.W.Work.counts in
     let now = cells ++ ((c.in-Cell.name, new_variable c.in-Cell.ty c.in-Cell.size) ∷ []) in
-    let added = c.in_ok-add_unset-in-Cell.ensures in
+    let added = c.in-Ok-add_unset.ensures in
     let behind : List Frame → Option (Fetched Landing) = λ frames. settle frames instrs (left - 1) (at + 1) (Some (making_of now given)) in
     record {
       few = omega (arith, few);
@@ -312,8 +312,8 @@ loop-left-preserved g c =
           c.loop-left.invariant.counted c.fetch.ensures.counted;
     }
 
-pub returns-in_err-add_parameter-in-Param-clause-counts : goal.returns-in_err-add_parameter-in-Param-clause-counts
-returns-in_err-add_parameter-in-Param-clause-counts g c =
+pub returns-in_default-add_parameter-clause-counts : goal.returns-in_default-add_parameter-clause-counts
+returns-in_default-add_parameter-clause-counts g c =
     let instrs = (g.C.CodeView.code c.args.code.now).instrs in
     let fetches = c.args.fetches in
     let left = c.loop-left.left in
@@ -335,8 +335,8 @@ returns-in_err-add_parameter-in-Param-clause-counts g c =
     (fetches_both k 1 (k + 1) (counts c.args.work.now) (counts c.loop-left.work) (counts c.fetch.new.work) refl
     c.loop-left.invariant.counted c.fetch.ensures.counted)
 
-pub returns-in_err-add_unset-in-Cell-clause-counts : goal.returns-in_err-add_unset-in-Cell-clause-counts
-returns-in_err-add_unset-in-Cell-clause-counts g c =
+pub returns-in_default-add_unset-clause-counts : goal.returns-in_default-add_unset-clause-counts
+returns-in_default-add_unset-clause-counts g c =
     let instrs = (g.C.CodeView.code c.args.code.now).instrs in
     let fetches = c.args.fetches in
     let left = c.loop-left.left in

@@ -1,12 +1,11 @@
 -- Each instruction is told by what was fetched. What is left at an address, with the cells so far, begins the run that
 -- begins at the first one: so a place ends it, a cell leads on, and nothing else comes.
-use Rattle.std.proofs.Common.{ℕ, ◌+◌, ◌≡◌, ◌∙◌, ◌++◌, ◌∷◌, [], List, refl, sym, ap, arith}
+use Rattle.std.proofs.Common.{ℕ, ◌+◌, ◌≡◌, ◌∙◌, List, refl, sym, ap, arith}
 use Rattle.std.proofs.Math.Bool.{false≢true}
 use Rattle.std.specs.Prelude.{Option, Some, drop, is_some, option_map, slice_get}
 use Rattle.plcs_code.specs.declared.instr.Instr.{Instr}
 use Rattle.plcs_code.specs.PlainInstr.{PlainInstr, plain_instr}
-use Rattle.plcs_store.specs.declared.variable.Variable.{Variable}
-use Rattle.plcs_store.specs.CellAt.{Variables, variable_named}
+use Rattle.plcs_store.specs.CellAt.{Variables}
 use Rattle.plcs_store.specs.Configuration.{plain_place}
 use Rattle.plcs_machine.specs.Enter.{begun_in}
 use Rattle.plcs_machine.specs.Fetched.{Fetched, fetches_of, result_of}
@@ -65,8 +64,8 @@ returns-in-At-clause-counts g c =
     (fetches_both c.loop-address.address 1 (c.loop-address.address + 1) (g.W.Work.counts c.args.work.now)
     (g.W.Work.counts c.loop-address.work) (g.W.Work.counts c.fetch.new.work) refl c.loop-address.invariant.counted c.fetch.ensures.counted)
 
-pub returns-in_err-unset-in-Cell-clause-counts : goal.returns-in_err-unset-in-Cell-clause-counts
-returns-in_err-unset-in-Cell-clause-counts g c =
+pub returns-in_default-add_unset-clause-counts : goal.returns-in_default-add_unset-clause-counts
+returns-in_default-add_unset-clause-counts g c =
     let instrs = (g.C.CodeView.code c.args.code.now).instrs in
     let there = found instrs c.loop-address.address c.fetch.result.now c.instr.result.now (Instr.Cell c.in-Cell.name c.in-Cell.ty c.in-Cell.size)
     c.fetch.ensures.fetched c.instr.ensures c.in-Cell.is in
@@ -78,27 +77,14 @@ returns-in_err-unset-in-Cell-clause-counts g c =
     (fetches_both c.loop-address.address 1 (c.loop-address.address + 1) (g.W.Work.counts c.args.work.now)
     (g.W.Work.counts c.loop-address.work) (g.W.Work.counts c.fetch.new.work) refl c.loop-address.invariant.counted c.fetch.ensures.counted)
 
-pub add-requires : goal.add-requires
-add-requires g c =
+pub add_unset-requires : goal.add_unset-requires
+add_unset-requires g c =
     let instrs = (g.C.CodeView.code c.args.code.now).instrs in
     let there = found instrs c.loop-address.address c.fetch.result.now c.instr.result.now (Instr.Cell c.in-Cell.name c.in-Cell.ty c.in-Cell.size)
     c.fetch.ensures.fetched c.instr.ensures c.in-Cell.is in
     let whole = ap (λ (o : Option (Fetched Landing)). is_some o) c.loop-address.invariant.begun ∙ c.requires.begins in
     let made = cell_made instrs c.loop-address.address c.in-Cell.name c.in-Cell.ty c.in-Cell.size c.loop-address.cells there whole in
-    record { new = ap (λ (name : List ℕ). variable_named name c.loop-address.cells) c.copy.ensures ∙ made.0 }
-
-pub returns-in_err-add-in-Cell-clause-counts : goal.returns-in_err-add-in-Cell-clause-counts
-returns-in_err-add-in-Cell-clause-counts g c =
-    let instrs = (g.C.CodeView.code c.args.code.now).instrs in
-    let there = found instrs c.loop-address.address c.fetch.result.now c.instr.result.now (Instr.Cell c.in-Cell.name c.in-Cell.ty c.in-Cell.size)
-    c.fetch.ensures.fetched c.instr.ensures c.in-Cell.is in
-    let whole = ap (λ (o : Option (Fetched Landing)). is_some o) c.loop-address.invariant.begun ∙ c.requires.begins in
-    let same = ap (λ (o : Option (Fetched Landing)). fetches_of o) c.loop-address.invariant.begun in
-    let most = cell_counts instrs c.loop-address.address c.in-Cell.name c.in-Cell.ty c.in-Cell.size c.loop-address.cells there whole in
-    fetches_most (c.loop-address.address + 1) (fetches_of (begun_in instrs c.args.cells.now)) (g.W.Work.counts c.args.work.now)
-    (g.W.Work.counts c.fetch.new.work) (omega (arith, most, same))
-    (fetches_both c.loop-address.address 1 (c.loop-address.address + 1) (g.W.Work.counts c.args.work.now)
-    (g.W.Work.counts c.loop-address.work) (g.W.Work.counts c.fetch.new.work) refl c.loop-address.invariant.counted c.fetch.ensures.counted)
+    record { new = made.0 }
 
 pub unreachable-requires : goal.unreachable-requires
 unreachable-requires g c =
@@ -120,9 +106,7 @@ loop-address-preserved g c =
     let there = found instrs address c.fetch.result.now c.instr.result.now (Instr.Cell c.in-Cell.name c.in-Cell.ty c.in-Cell.size)
     c.fetch.ensures.fetched c.instr.ensures c.in-Cell.is in
     let whole = ap (λ (o : Option (Fetched Landing)). is_some o) c.loop-address.invariant.begun ∙ c.requires.begins in
-    let made = c.in_ok-add-in-Cell.ensures.added
-    ∙ ap (λ (name : List ℕ). cells ++ ((name, c.in_ok-unset-in-Cell.field-0) ∷ [])) c.copy.ensures
-    ∙ ap (λ (variable : Variable). cells ++ ((c.in-Cell.name, variable) ∷ [])) c.in_ok-unset-in-Cell.ensures in
+    let made = c.in-Ok.ensures in
     record {
       begun =
           ap (λ (now : Variables). begun_at instrs (address + 1) now) made

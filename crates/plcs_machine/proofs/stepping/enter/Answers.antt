@@ -1,6 +1,6 @@
 -- The frame that is made is that of the call, for the newest arguments and with no cells yet, and its caller waits.
 use Rattle.std.proofs.Common.{ℕ, ◌≡◌, ◌∙◌, ◌++◌, ◌∷◌, [], List, refl, sym, ap, arith, subst}
-use Rattle.std.specs.Prelude.{Result, Ok, Err, OnErr, Some, IsSome, length}
+use Rattle.std.specs.Prelude.{Some, IsSome, length}
 use Rattle.plcs_base.specs.declared.place.Place.{Place}
 use Rattle.plcs_store.specs.declared.argument.Argument.{Argument}
 use Rattle.plcs_store.specs.declared.frame.Frame.{Frame}
@@ -25,11 +25,6 @@ begun cells count given added arguments none taken same =
     ap (λ (some : Variables). making_of some given) none
     ∙ ap (making_of []) (taken ∙ ap (newest_arguments count) same)
 
--- what is so anyway is so at a fault
-at_fault : {T E P : Type 0} (r : Result T E) → P → OnErr r P
-at_fault (Ok t) p = tt
-at_fault (Err e) p = p
-
 pub first_place_in-requires : goal.first_place_in-requires
 first_place_in-requires g c =
     let code = g.C.CodeView.code c.args.code.now in
@@ -49,8 +44,8 @@ first_place_in-requires g c =
     subst (λ (making : Making). IsSome (settle state.frames code.instrs left address (Some making))) (sym making) whole in
     record { short = c.requires.short; settles = (state.frames, settles) }
 
-pub returns-in_err-loops-clause-memory : goal.returns-in_err-loops-clause-memory
-returns-in_err-loops-clause-memory g c =
+pub returns-in_default-clause-memory : goal.returns-in_default-clause-memory
+returns-in_default-clause-memory g c =
     let code = g.C.CodeView.code c.args.code.now in
     let state = c.args.state.now in
     let before = plain_configuration state in
@@ -60,10 +55,10 @@ returns-in_err-loops-clause-memory g c =
     let address = entry.address in
     let slot = entry.slot.0 in
     let arguments = newest_arguments count state.operands.arguments in
-    at_fault c.from_residual.result (call_makes code before left slot address arguments c.requires.answered)
+    call_makes code before left slot address arguments c.requires.answered
 
-pub returns-in_err-first-clause-memory : goal.returns-in_err-first-clause-memory
-returns-in_err-first-clause-memory g c =
+pub returns-in_default-first_place_in-clause-memory : goal.returns-in_default-first_place_in-clause-memory
+returns-in_default-first_place_in-clause-memory g c =
     let code = g.C.CodeView.code c.args.code.now in
     let state = c.args.state.now in
     let before = plain_configuration state in
@@ -73,10 +68,10 @@ returns-in_err-first-clause-memory g c =
     let address = entry.address in
     let slot = entry.slot.0 in
     let arguments = newest_arguments count state.operands.arguments in
-    at_fault c.from_residual-in_err-first.result (call_makes code before left slot address arguments c.requires.answered)
+    call_makes code before left slot address arguments c.requires.answered
 
-pub returns-in_err-loops-clause-counts : goal.returns-in_err-loops-clause-counts
-returns-in_err-loops-clause-counts g c =
+pub returns-in_default-clause-counts : goal.returns-in_default-clause-counts
+returns-in_default-clause-counts g c =
     let code = g.C.CodeView.code c.args.code.now in
     let state = c.args.state.now in
     let before = plain_configuration state in
@@ -88,8 +83,8 @@ returns-in_err-loops-clause-counts g c =
     let arguments = newest_arguments count state.operands.arguments in
     fetches_few (more_fetches (called_answer code state left entry count)) (g.W.Work.counts c.args.work.now)
 
-pub returns-in_err-first-clause-counts : goal.returns-in_err-first-clause-counts
-returns-in_err-first-clause-counts g c =
+pub returns-in_default-first_place_in-clause-counts : goal.returns-in_default-first_place_in-clause-counts
+returns-in_default-first_place_in-clause-counts g c =
     let code = g.C.CodeView.code c.args.code.now in
     let state = c.args.state.now in
     let before = plain_configuration state in
@@ -161,7 +156,7 @@ returns-clause-counted g c =
     ap (λ (making : Making). fetches_of (settle state.frames code.instrs left address (Some making))) making
     ∙ call_fetches code before left slot address arguments c.requires.answered in
     subst (λ (n : ℕ). FetchesBy n (counts c.args.work.now) (counts c.first_place_in.new.work)) same
-    (c.in_ok-first.ensures.counted state.frames settles)
+    (c.in-Ok-first_place_in.ensures.counted state.frames settles)
 
 pub set_place-requires : goal.set_place-requires
 set_place-requires g c =
@@ -211,17 +206,17 @@ returns-clause-done g c =
     let settles =
     subst (λ (making : Making). IsSome (settle state.frames code.instrs left address (Some making))) (sym making) whole in
     let waits : Place = record { slot = c.args.end.from.slot; point = record { 0 = 1 } } in
-    let first = c.in_ok-first.first in
+    let first = c.in-Ok-first_place_in.first in
     let cells = c.first_place_in.new.cells in
     let lands =
     sym (ap (λ (making : Making). result_of (settle state.frames code.instrs left address (Some making))) making)
-    ∙ c.in_ok-first.ensures.place state.frames settles in
+    ∙ c.in-Ok-first_place_in.ensures.place state.frames settles in
     let made : Frame = new_frame slot (plain_place first) cells in
     let frame : List KeptLoop → Frame =
     λ loops. record { procedure = entry.slot; place = first; cells = cells; loops = loops } in
     let pushed =
     c.push.ensures
-    ∙ ap (λ (loops : List KeptLoop). c.set_place.new.self ++ (frame loops ∷ [])) c.in_ok-loops.ensures
+    ∙ ap (λ (loops : List KeptLoop). c.set_place.new.self ++ (frame loops ∷ [])) c.in-Ok.ensures
     ∙ ap (λ (frames : List Frame). frames ++ (made ∷ [])) c.set_place.ensures in
     call_done code before left slot address arguments c.args.end.from c.requires.at waits first refl cells lands _ c.args.undo.now _
-    (ap (λ (frames : List Frame). let one : PlainConfiguration = record before { frames = frames } in one) pushed) refl
+    (ap (λ (frames : List Frame). let one : PlainConfiguration = record before { frames = frames } in one) pushed) c.note.ensures

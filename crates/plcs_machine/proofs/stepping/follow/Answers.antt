@@ -1,23 +1,20 @@
 -- What an instruction leads to is done behind it, and that is the whole step: each arm is the answer at what the
 -- instruction led to.
-use Rattle.std.proofs.Common.{ℕ, ◌≡◌, ◌∙◌, List, refl, sym, ap, arith, subst}
+use Rattle.std.proofs.Common.{◌∙◌, List, refl, sym, ap, arith, subst}
 use Rattle.std.proofs.Math.Bool.{false≢true}
-use Rattle.std.specs.Prelude.{[], None, IsSome, IfOk, OnErr, OnOk}
+use Rattle.std.specs.Prelude.{IsSome, IfOk, OnErr, OnOk}
 use Rattle.plcs_store.specs.declared.frame.Frame.{Frame}
 use Rattle.plcs_store.specs.declared.run_state.RunState.{RunState}
-use Rattle.plcs_store.specs.declared.undo.Undo.{Undo}
 use Rattle.plcs_store.specs.Configuration.{PlainConfiguration, plain_configuration, plain_place}
 use Rattle.plcs_machine.specs.declared.led.Led.{Led}
 use Rattle.plcs_machine.specs.declared.step_answer.StepAnswer.{StepAnswer}
-use Rattle.plcs_machine.specs.Fetched.{FetchesAtMost, FetchesBy, fetches_of}
-use Rattle.plcs_machine.specs.Passing.{settle}
+use Rattle.plcs_machine.specs.Fetched.{FetchesAtMost, FetchesBy}
 use Rattle.plcs_machine.specs.StepMade.{MakesFrame}
 use Rattle.plcs_machine.specs.Private.DoableLead.{IsDoable}
-use Rattle.plcs_machine.specs.Private.PlainLed.{plain_act, plain_led}
+use Rattle.plcs_machine.specs.Private.PlainLed.{plain_led}
 use Rattle.plcs_machine.specs.Private.WalkedStep.{IsDone, led_answer, more_fetches}
 use Rattle.plcs_machine.proofs.CountedFetches.{fetches_few, fetches_most, fetches_nothing}
-use Rattle.plcs_machine.proofs.DoneSteps.{act_done, act_fetches, act_settles, pass_done}
-use Rattle.plcs_machine.proofs.EndedSteps.{plain_writes}
+use Rattle.plcs_machine.proofs.DoneSteps.{pass_done}
 use Rattle.plcs_machine.proofs.NotedActs.{pass_noted, some_frame}
 use Rattle.plcs_machine.proofs.stepping.follow.Goals as goal
 
@@ -28,24 +25,16 @@ unreachable-requires g c =
     let left = c.args.end.left in
     false≢true (subst (λ (led : Led). IsSome (led_answer code state left led)) c.in-GoesOn.is c.requires.answered)
 
-pub next_place-landed-requires : goal.next_place-landed-requires
-next_place-landed-requires g c =
-    let code = g.C.CodeView.code c.args.code.now in
-    let state = c.args.state.now in
-    let left = c.args.end.left in
-    let act = plain_act c.in-Acts.act in
-    let address = c.in-Acts.address in
-    let whole = subst (λ (led : Led). IsSome (led_answer code state left led)) c.in-Acts.is c.requires.answered in
-    record { short = c.requires.short; settles = act_settles code (plain_configuration state) left address act whole }
-
-pub act_on-requires : goal.act_on-requires
-act_on-requires g c =
+pub do_act-requires : goal.do_act-requires
+do_act-requires g c =
     let code = g.C.CodeView.code c.args.code.now in
     let state = c.args.state.now in
     let left = c.args.end.left in
     record {
+      short = c.requires.short;
       at = c.requires.at;
       can = subst (λ (led : Led). IsDoable state.frames (plain_led led state.operands.values state.operands.arguments)) c.in-Acts.is c.requires.can;
+      answered = subst (λ (led : Led). IsSome (led_answer code state left led)) c.in-Acts.is c.requires.answered;
     }
 
 pub returns-in-Acts-clause-done : goal.returns-in-Acts-clause-done
@@ -53,48 +42,28 @@ returns-in-Acts-clause-done g c =
     let code = g.C.CodeView.code c.args.code.now in
     let state = c.args.state.now in
     let left = c.args.end.left in
-    let act = plain_act c.in-Acts.act in
-    let address = c.in-Acts.address in
-    let whole = subst (λ (led : Led). IsSome (led_answer code state left led)) c.in-Acts.is c.requires.answered in
-    let landed = c.next_place-landed.result in
-    let can = subst (λ (led : Led). IsDoable state.frames (plain_led led state.operands.values state.operands.arguments)) c.in-Acts.is c.requires.can in
-    let now = c.act_on.new.state in
-    let after : RunState = record now { frames = c.set_place.new.self } in
-    subst (λ (led : Led). IsDone (led_answer code state left led) StepAnswer.Stepped state after c.args.undo.now c.act_on.result) (sym c.in-Acts.is)
-    (act_done code (plain_configuration state) c.args.end.from c.requires.at left address act landed c.next_place-landed.ensures.place can
-    (plain_writes state.output c.in-Acts.act) (plain_configuration after) c.args.undo.now c.act_on.result
-    (ap (λ (frames : List Frame). let one : PlainConfiguration = record (plain_configuration now) { frames = frames } in one) c.set_place.ensures
-    ∙ c.act_on.ensures.done (plain_place landed))
-    c.act_on.ensures.noted)
+    subst (λ (led : Led). IsDone (led_answer code state left led) c.do_act.result state c.do_act.new.state c.args.undo.now c.do_act.new.undo)
+    (sym c.in-Acts.is) c.do_act.ensures.done
 
 pub returns-in-Acts-clause-counted : goal.returns-in-Acts-clause-counted
 returns-in-Acts-clause-counted g c =
     let code = g.C.CodeView.code c.args.code.now in
     let state = c.args.state.now in
     let left = c.args.end.left in
-    let act = plain_act c.in-Acts.act in
-    let address = c.in-Acts.address in
-    let whole = subst (λ (led : Led). IsSome (led_answer code state left led)) c.in-Acts.is c.requires.answered in
     let counts = g.W.Work.counts in
-    let total : fetches_of (settle [] code.instrs left address None) ≡ more_fetches (led_answer code state left c.args.led) =
-    act_fetches code (plain_configuration state) left address act whole
-    ∙ ap (λ (led : Led). more_fetches (led_answer code state left led)) (sym c.in-Acts.is) in
-    subst (λ (n : ℕ). FetchesBy n (counts c.args.work.now) (counts c.next_place-landed.new.work)) total c.next_place-landed.ensures.counted
+    subst (λ (led : Led). FetchesBy (more_fetches (led_answer code state left led)) (counts c.args.work.now) (counts c.do_act.new.work))
+    (sym c.in-Acts.is) c.do_act.ensures.counted
 
 pub returns-in-Acts-clause-counts : goal.returns-in-Acts-clause-counts
 returns-in-Acts-clause-counts g c =
     let code = g.C.CodeView.code c.args.code.now in
     let state = c.args.state.now in
     let left = c.args.end.left in
-    let act = plain_act c.in-Acts.act in
-    let address = c.in-Acts.address in
-    let whole = subst (λ (led : Led). IsSome (led_answer code state left led)) c.in-Acts.is c.requires.answered in
     let counts = g.W.Work.counts in
-    let total : fetches_of (settle [] code.instrs left address None) ≡ more_fetches (led_answer code state left c.args.led) =
-    act_fetches code (plain_configuration state) left address act whole
-    ∙ ap (λ (led : Led). more_fetches (led_answer code state left led)) (sym c.in-Acts.is) in
-    fetches_most (fetches_of (settle [] code.instrs left address None)) (more_fetches (led_answer code state left c.args.led))
-    (counts c.args.work.now) (counts c.next_place-landed.new.work) (omega (arith, total)) c.next_place-landed.ensures.counted
+    let counted = subst (λ (led : Led). FetchesBy (more_fetches (led_answer code state left led)) (counts c.args.work.now) (counts c.do_act.new.work))
+    (sym c.in-Acts.is) c.do_act.ensures.counted in
+    let all = more_fetches (led_answer code state left c.args.led) in
+    fetches_most all all (counts c.args.work.now) (counts c.do_act.new.work) (omega arith) counted
 
 pub enter-requires : goal.enter-requires
 enter-requires g c =
@@ -144,8 +113,8 @@ returns-in-Enters-clause-memory g c =
     subst (λ (led : Led). OnErr c.enter.result (MakesFrame (led_answer code state left led) (plain_configuration state))) (sym c.in-Enters.is)
     c.enter.ensures.memory
 
-pub set_place-requires-in-Arrives : goal.set_place-requires-in-Arrives
-set_place-requires-in-Arrives g c =
+pub set_place-requires : goal.set_place-requires
+set_place-requires g c =
     let code = g.C.CodeView.code c.args.code.now in
     let state = c.args.state.now in
     let left = c.args.end.left in
@@ -156,12 +125,12 @@ returns-in-Arrives-clause-done g c =
     let code = g.C.CodeView.code c.args.code.now in
     let state = c.args.state.now in
     let left = c.args.end.left in
-    let after : RunState = record state { frames = c.set_place-in-Arrives.new.self } in
-    let notes : Undo = Undo.Moved c.args.end.from in
+    let after : RunState = record state { frames = c.set_place.new.self } in
+    let notes = c.note.new.undo in
     subst (λ (led : Led). IsDone (led_answer code state left led) StepAnswer.Stepped state after c.args.undo.now notes) (sym c.in-Arrives.is)
     (pass_done code (plain_configuration state) c.args.end.from c.requires.at left c.in-Arrives.landed (plain_configuration after) c.args.undo.now notes
-    (ap (λ (frames : List Frame). let one : PlainConfiguration = record (plain_configuration state) { frames = frames } in one) c.set_place-in-Arrives.ensures)
-    (pass_noted (plain_configuration state) c.args.end.from c.requires.at))
+    (ap (λ (frames : List Frame). let one : PlainConfiguration = record (plain_configuration state) { frames = frames } in one) c.set_place.ensures)
+    (c.note.ensures ∙ pass_noted (plain_configuration state) c.args.end.from c.requires.at))
 
 pub returns-in-Arrives-clause-counted : goal.returns-in-Arrives-clause-counted
 returns-in-Arrives-clause-counted g c =

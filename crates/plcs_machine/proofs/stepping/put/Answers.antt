@@ -56,7 +56,8 @@ returns-then-write-clause-done g c =
     c.requires.answered fits landed c.next_place.ensures.place _ c.args.undo.now _
     (ap (λ (frames : List Frame). let d : PlainConfiguration = record (plain_configuration c.write.new.state) { frames = frames } in d) c.set_place.ensures
     ∙ ap (standing_at (plain_place landed)) written)
-    (ap (λ (bytes : List ℕ). Undo.Wrote end.from (length bytes)) c.as_slice-before.ensures.bytes
+    (c.note.ensures
+    ∙ ap (λ (bytes : List ℕ). Undo.Wrote end.from (length bytes)) c.as_slice-before.ensures.bytes
     ∙ write_noted before end.from c.requires.at output)
 
 pub returns-then-write-clause-counted : goal.returns-then-write-clause-counted

@@ -23,10 +23,10 @@ returns-clause-done g c =
     let landed = c.next_place-landed.result in
     let now = c.read_into.new.state in
     act_done code before end.from c.requires.at end.left end.next act landed c.next_place-landed.ensures.place c.requires.there tt _
-    c.args.undo.now c.read_into.result
+    c.args.undo.now c.note.new.undo
     (ap (λ (frames : List Frame). let one : PlainConfiguration = record (plain_configuration now) { frames = frames } in one) c.set_place.ensures
     ∙ c.read_into.ensures.done (plain_place landed))
-    c.read_into.ensures.noted
+    (c.note.ensures ∙ c.read_into.ensures.noted)
 
 pub returns-clause-counted : goal.returns-clause-counted
 returns-clause-counted g c =

@@ -27,7 +27,7 @@ loop-k-preserved g c =
     let there : slice_get items k ≡ Some procedure = sym c.in-Some.ensures.item in
     let next : k + 1 ≡ c.loop-k.k = omega (arith, c.loop-k-test.true) in
     record {
-      noted = noted_procedure program items k c.loop-k.k procedure there next c.loop-k.marks.verdicts c.note_node.new.self.verdicts c.loop-k.invariant.noted c.in_ok-note_node.ensures.noted;
+      noted = noted_procedure program items k c.loop-k.k procedure there next c.loop-k.marks.verdicts c.note_node.new.self.verdicts c.loop-k.invariant.noted c.in-Ok.ensures.noted;
       within = omega (arith, c.loop-k.invariant.within);
       counts =
           c.counts_add_up.ensures.checks.joined (length (procedure_verdicts program (forest (drop c.loop-k.k items))))
@@ -36,8 +36,8 @@ loop-k-preserved g c =
           (omega (arith, procedure_more program items k c.loop-k.k procedure there next)) c.loop-k.invariant.counts c.note_node.ensures.counts;
     }
 
-pub returns-in_err-note_node-clause-counts : goal.returns-in_err-note_node-clause-counts
-returns-in_err-note_node-clause-counts g c =
+pub returns-in_default-note_node-clause-counts : goal.returns-in_default-note_node-clause-counts
+returns-in_default-note_node-clause-counts g c =
     let program = c.args.tree.now.items in
     let items = nodes program in
     let procedure = c.in-Some.procedure.now in

@@ -16,12 +16,12 @@ check_due-requires-clause-due g c =
     (subst (λ (places : List PhraseAt). IsDueIn c.args.edit.now.decls c.args.tree.now.items places) (sym c.due-2.ensures)
     (due_in c.args.self.now.verdicts c.args.tree.now c.args.change.now c.args.decls.now c.args.edit.now c.requires.before))
 
-pub returns-clause-after : goal.returns-clause-after
-returns-clause-after g c =
-    let entries = c.in_ok-checked.checked.entries in
-    let kept = c.in_ok-gone.gone.keys in
+pub returns-in-Ok-check_due-clause-after : goal.returns-in-Ok-check_due-clause-after
+returns-in-Ok-check_due-clause-after g c =
+    let entries = c.in-Ok-check_due.checked.entries in
+    let kept = c.in-Ok-places.gone.keys in
     ap (λ (m : VerdictMap). with_all entries (without_all kept m)) c.reserve.ensures.same
     ∙ prepared_after c.checks_ignore_room_and_elision.ensures.room c.args.self.now.verdicts c.args.tree.now c.args.change.now c.args.decls.now
     c.args.edit.now c.requires.tree c.requires.before entries kept
-    (subst (λ (places : List PhraseAt). AreChecked c.args.tree.now.items places entries) c.due-2.ensures c.in_ok-checked.ensures.checked)
-    (subst (λ (places : List PhraseAt). AreSamePlaces places kept) c.gone.ensures c.in_ok-gone.ensures)
+    (subst (λ (places : List PhraseAt). AreChecked c.args.tree.now.items places entries) c.due-2.ensures c.in-Ok-check_due.ensures.checked)
+    (subst (λ (places : List PhraseAt). AreSamePlaces places kept) c.gone.ensures c.in-Ok-places.ensures)
