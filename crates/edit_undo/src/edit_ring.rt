@@ -81,6 +81,7 @@ impl EditRing {
         ensures fits { (tree : PlainTree) → RingFits (edit ∷ self.old) tree → RingFits self.new tree }
     {
         let Some(weight) = edit.weight() else {
+            drop(edit);
             self.clear();
             return;
         };
@@ -179,6 +180,7 @@ impl EditRing {
         let Some(weight) = oldest.weight() else {
             unreachable!()
         };
+        drop(oldest);
         self.weight -= weight;
     }
 
@@ -207,7 +209,7 @@ impl EditRing {
         ensures { self.new ≡ edit ∷ self.old }
     {
         // No edit is dropped: there is room.
-        let _none = self.records.push_front(edit);
+        drop(self.records.push_front(edit));
         self.weight += weight;
     }
 }

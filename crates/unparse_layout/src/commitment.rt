@@ -21,6 +21,7 @@ impl<W: Work> Layout<W> {
     {
         let LayoutEdit { path, mend } = edit;
         let Some((k, rest)) = path.split_first() else {
+            drop(mend);
             return;
         };
         self.root.mend_at(*k as usize, rest, mend);

@@ -19,7 +19,7 @@ invariant_of-self c =
     let few : length records.items < most_edits = subst (λ (e : List EditRecord). length e < most_edits) (sym c.self.view_is) c.requires.few in
     let light : edits_weight records.items + edit_weight c.args.edit.back ≤ most_taken_slots =
     omega (arith, ap edits_weight c.self.view_is, c.requires.room, c.requires.weight) in
-    subst (λ (b : Buffer EditRecord). IsKeptRing record { records = b; weight = weight + c.args.weight }) (sym c.push_front-none.ensures.items)
+    subst (λ (b : Buffer EditRecord). IsKeptRing record { records = b; weight = weight + c.args.weight }) (sym c.push_front.ensures.items)
     (subst (λ (w : ℕ). IsKeptRing record { records = buffer held records.capacity; weight = weight + w }) (sym c.requires.weight)
     (newest_kept records.items records.capacity weight c.args.edit c.self.invariant few light))
 
@@ -27,6 +27,6 @@ pub returns : goal.returns
 returns c =
     let records = c.self.inside.records in
     let few : length records.items < most_edits = subst (λ (e : List EditRecord). length e < most_edits) (sym c.self.view_is) c.requires.few in
-    ap (λ (b : Buffer EditRecord). b.items) c.push_front-none.ensures.items
+    ap (λ (b : Buffer EditRecord). b.items) c.push_front.ensures.items
     ∙ (newest_put records.items records.capacity c.self.inside.weight c.args.edit c.self.invariant few
     ∙ ap (λ (edits : List EditRecord). c.args.edit ∷ edits) c.self.view_is)
