@@ -30,6 +30,8 @@ pub mod EarlierAgreements
 pub mod NotedStops
 -- clauses of stop_or_comment: where the cursor goes for a stop
 pub mod StopsOrComments
+-- clauses of obey: what a command did that is obeyed, and what is counted then
+pub mod ObeyedCommands
 -- clauses of keep_for_run, edit, cut_out and toggle_comment: what is kept for the run that stands
 pub mod KeptRuns
 -- clauses of accept_edit, edit and cut_out: an edit that is noted
@@ -63,9 +65,9 @@ pub mod NodeCodes
 pub mod CodeRowTexts
 -- `back` of take_back
 pub mod RunsTakenBack
--- `code` of Dependents::of, toggle_elision and prepare_code: the code that is kept of a tree
+-- `code` of made_code, toggle_elision and prepare_code: the code that is kept of a tree
 pub mod ProgramCodes
--- `counts` of Dependents::of, of cut and of keys that are refused: what is counted at most
+-- `counts` of Dependents::renew, of cut and of keys that are refused: what is counted at most
 pub mod CountedPrograms
 -- the run of a session in begin_run, go_back and add_input
 pub mod FittingRuns

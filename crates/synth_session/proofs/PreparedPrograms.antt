@@ -160,7 +160,7 @@ same_then old between now was later =
       told = later.told ∙ was.told;
     }
 
--- where this holds it holds also where memory ran out
-pub where_wanted : {A E : Type 0} → (result : Result A E) → {P : Type 0} → P → IfErr result (λ _. P)
-where_wanted (Ok value) holds = tt
-where_wanted (Err error) holds = holds
+-- what holds where memory ran out makes hold what follows from it
+pub refused_so : {A E : Type 0} → (result : Result A E) → {P Q : Type 0} → (P → Q) → IfErr result (λ _. P) → IfErr result (λ _. Q)
+refused_so (Ok value) follows holds = tt
+refused_so (Err error) follows holds = follows holds

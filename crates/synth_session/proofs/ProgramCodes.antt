@@ -55,14 +55,16 @@ code_ready kept room (Ok edit) code tree keeps tells ready =
 code_ready kept room (Err error) code tree keeps tells ready = tt
 
 -- so does one that is made by the verdicts and the table of declarations that depend on the tree
-pub made_for : KeptCodeIsOfProgram → KeptCodeIgnoresRoom → CodeIsOfProgram → ProgramCodeIgnoresRoom → (code : PlainCodeTree)
+pub made_for : KeptCodeIsOfProgram → KeptCodeIgnoresRoom → CodeIsOfProgram → ProgramCodeIgnoresRoom → (made : Result PlainCodeTree OutOfMemory)
     (tree : PlainTree) (verdicts : VerdictMap) (decls : PlainDecls) → verdicts ≡ Verdicts tree.items → IsDeclsOf decls tree.items
-    → roomless_code code.items ≡ kept_code (offences verdicts) decls.items tree.items
-    → told_code code.items ≡ Gen (offences verdicts) decls.items tree.items → IsCodeFor code (roomless_tree tree)
-made_for of_program kept made room code tree verdicts decls are of keeps tells =
+    → IfOk made (λ code. roomless_code code.items ≡ kept_code (offences verdicts) decls.items tree.items)
+    → IfOk made (λ code. told_code code.items ≡ Gen (offences verdicts) decls.items tree.items)
+    → IfOk made (λ code. IsCodeFor code (roomless_tree tree))
+made_for of_program kept law room (Ok code) tree verdicts decls are of keeps tells =
     let marks_tell = ap (λ (v : VerdictMap). offences v) are in
     code_for kept room code tree (keeps ∙ of_program tree.items (offences verdicts) decls.items marks_tell of.items_are)
-    (tells ∙ made tree.items (offences verdicts) decls.items marks_tell of.items_are)
+    (tells ∙ law tree.items (offences verdicts) decls.items marks_tell of.items_are)
+made_for of_program kept law room (Err error) tree verdicts decls are of keeps tells = tt
 
 -- a comment that is turned is no part of the code
 pub code_turned : KeptCodeIgnoresElision → ProgramCodeIgnoresElision → (code : PlainCodeTree) (tree : PlainTree) (path : List ℕ)

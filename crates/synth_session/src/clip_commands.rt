@@ -1,5 +1,5 @@
 //! The commands of clips, `.copy`, `.cut` and `.insert`.
-ghost use Rattle.std.specs.Prelude.{◌≡◌, ◌≤◌, false, true, not, IfOk, IfSome, Option, Some, None, option_map, option_and_then};
+ghost use Rattle.std.specs.Prelude.{◌≡◌, ◌≤◌, false, true, not, IfErr, IfOk, IfSome, OnOk, Option, Some, None, option_map, option_and_then};
 ghost use Rattle.plcs_grammar.specs.PlainPhrase.{plain_phrase};
 ghost use Rattle.template_tree.specs.Programs.PlainTree.{roomless_tree};
 ghost use Rattle.template_tree.specs.Positions.Stop.{IsStop, plain_stop};
@@ -10,7 +10,9 @@ ghost use Rattle.clip_store.specs.PlainFragment.{IsFragment, PlainFragment, kept
 ghost use Rattle.session_edit.specs.Edited.{edited};
 ghost use Rattle.session_edit.specs.Here.{takes_at};
 ghost use Rattle.session_edit.specs.PlainEdit.{PlainEdit};
+ghost use Rattle.synth_session.specs.Private.KeptRun.{HasKeptRun};
 ghost use Rattle.synth_session.specs.ClipCommands.{clip_inserted, copied_to_clip, cut_outcome, cut_to_clip, fragment_there, slots_there};
+ghost use Rattle.synth_session.specs.KeyOutcome.{refusal_outcome};
 ghost use Rattle.synth_session.specs.TypedLine.{cursor_phrase};
 ghost use Rattle.synth_session.specs.SessionView.{CountsOutcome, Does, IsReadyForKey, plain_session};
 
@@ -34,17 +36,63 @@ impl<W: Work> Session<W> {
         requires { IsReadyForKey self.old }
         ensures { Does true (copied_to_clip (plain_session self.old) name) self.old self.new result }
     {
+        match self.fits_clip(&name) {
+            Ok(()) => self.copy_out(alloc, name),
+            Err(why) => {
+                drop(name);
+                Ok(self.refuse(why))
+            }
+        }
+    }
+
+    /// Whether what stands at the cursor can be taken out, and the clips have room for it under the name, or why not.
+    fn fits_clip(&self, name: &Name) -> Result<(), Refusal>
+        requires { IsReadyForKey self.now }
+        ensures takes { OnOk result
+            (takes_at (plain_session self.now).tree (plain_session self.now).stop ≡ true) }
+        ensures fits { OnOk result (is_full name.now
+            (slots_there (plain_session self.now).tree (plain_session self.now).stop)
+            (plain_session self.now).clips ≡ false) }
+        ensures copy { IfErr result (λ why.
+            copied_to_clip (plain_session self.now) name.now ≡ refusal_outcome (plain_session self.now) why) }
+        ensures cut { IfErr result (λ why.
+            cut_to_clip (plain_session self.now) name.now ≡ refusal_outcome (plain_session self.now) why) }
+    {
         if !takes(&self.program.tree, &self.stop) {
-            return Ok(self.refuse(Refusal::NotHere));
+            return Err(Refusal::NotHere);
         }
         let slots = slots_there(&self.program.tree, &self.stop);
-        if !would_hold(&self.clips, &name, slots) {
-            return Ok(self.refuse(Refusal::Clip(ClipRefusal::Full)));
+        if would_hold(&self.clips, name, slots) {
+            Ok(())
+        } else {
+            Err(Refusal::Clip(ClipRefusal::Full))
         }
-        self.clips.reserve(&name)?;
-        let copy = copy_there(alloc, &self.program.tree, &self.stop)?;
-        keep(&mut self.clips, name, copy);
-        Ok(self.accept_line())
+    }
+
+    /// Copies what stands at the cursor into the clip of the name: it can be taken out, and the clips have room for it.
+    fn copy_out(&mut self, alloc: Global, name: Name) -> Result<Answer, OutOfMemory>
+        requires session { IsReadyForKey self.old }
+        requires takes { takes_at (plain_session self.old).tree (plain_session self.old).stop ≡ true }
+        requires fits { is_full name (slots_there (plain_session self.old).tree (plain_session self.old).stop)
+            (plain_session self.old).clips ≡ false }
+        ensures { Does true (copied_to_clip (plain_session self.old) name) self.old self.new result }
+    {
+        match self.clips.reserve(&name) {
+            Ok(()) => match copy_there(alloc, &self.program.tree, &self.stop) {
+                Ok(copy) => {
+                    keep(&mut self.clips, name, copy);
+                    Ok(self.accept_line())
+                }
+                Err(OutOfMemory) => {
+                    drop(name);
+                    Err(OutOfMemory)
+                }
+            },
+            Err(OutOfMemory) => {
+                drop(name);
+                Err(OutOfMemory)
+            }
+        }
     }
 
     /// Takes what stands at the cursor out into the clip of the name.
@@ -59,14 +107,13 @@ impl<W: Work> Session<W> {
         ensures counts { CountsOutcome (cut_to_clip (plain_session self.old) name)
             (W.counts work.old) (W.counts work.new) result }
     {
-        if !takes(&self.program.tree, &self.stop) {
-            return Ok(self.refuse(Refusal::NotHere));
+        match self.fits_clip(&name) {
+            Ok(()) => self.cut_out(alloc, name, work),
+            Err(why) => {
+                drop(name);
+                Ok(self.refuse(why))
+            }
         }
-        let slots = slots_there(&self.program.tree, &self.stop);
-        if !would_hold(&self.clips, &name, slots) {
-            return Ok(self.refuse(Refusal::Clip(ClipRefusal::Full)));
-        }
-        self.cut_out(alloc, name, work)
     }
 
     /// Takes what stands at the cursor out, and a copy of it into the clip of the name: it can be taken out, and the
@@ -90,18 +137,48 @@ impl<W: Work> Session<W> {
         edits_follow();
         agreement_lasts();
         undone_trees_check_alike();
-        let copy = copy_there(alloc, &self.program.tree, &self.stop)?;
-        self.clips.reserve(&name)?;
-        self.keep_for_run(alloc)?;
-        match self.program.change(alloc, &self.stop, Edit::Take, work) {
-            Ok(applied) => {
-                keep(&mut self.clips, name, copy);
-                Ok(self.accept_edit(applied))
-            }
-            Err(fault) => match fault {
-                TreeFault::OutOfMemory => Err(OutOfMemory),
-                _ => Ok(self.refuse(edit_refusal(fault))),
+        match copy_there(alloc, &self.program.tree, &self.stop) {
+            Ok(copy) => match self.make_ready(alloc, &name) {
+                Ok(()) => match self.program.change(alloc, &self.stop, Edit::Take, work) {
+                    Ok(applied) => {
+                        keep(&mut self.clips, name, copy);
+                        Ok(self.accept_edit(applied))
+                    }
+                    Err(fault) => {
+                        drop(copy);
+                        drop(name);
+                        match fault {
+                            TreeFault::OutOfMemory => Err(OutOfMemory),
+                            _ => Ok(self.refuse(edit_refusal(fault))),
+                        }
+                    }
+                },
+                Err(OutOfMemory) => {
+                    drop(copy);
+                    drop(name);
+                    Err(OutOfMemory)
+                }
             },
+            Err(OutOfMemory) => {
+                drop(name);
+                Err(OutOfMemory)
+            }
+        }
+    }
+
+    /// Makes room for a clip of the name, and keeps what is asked for when the run that stands goes on.
+    fn make_ready(&mut self, alloc: Global, name: &Name) -> Result<(), OutOfMemory>
+        requires ready { IsReadyForKey self.old }
+        ensures ready { IsReadyForKey self.new }
+        ensures room { OnOk result (has_room name.now self.new.clips ≡ true) }
+        ensures kept { OnOk result (HasKeptRun self.new) }
+        ensures plain { plain_session self.new ≡ plain_session self.old }
+        ensures program { self.new.program ≡ self.old.program }
+        ensures screens { self.new.screens ≡ self.old.screens }
+    {
+        match self.clips.reserve(name) {
+            Ok(()) => self.keep_for_run(alloc),
+            Err(OutOfMemory) => Err(OutOfMemory),
         }
     }
 
@@ -121,8 +198,10 @@ impl<W: Work> Session<W> {
         let Some(clip) = self.clips.get(name) else {
             return Ok(self.refuse(Refusal::Clip(ClipRefusal::NoClip)));
         };
-        let copy = clip.copy(alloc)?;
-        self.edit(alloc, Edit::Insert(copy), work)
+        match clip.copy(alloc) {
+            Ok(copy) => self.edit(alloc, Edit::Insert(copy), work),
+            Err(OutOfMemory) => Err(OutOfMemory),
+        }
     }
 }
 
@@ -208,7 +287,7 @@ fn keep(clips: &mut Clips, name: Name, fragment: Fragment)
 {
     clips_are_kept_whole();
     match clips.put(name, fragment) {
-        Ok(_) => {}
+        Ok(before) => drop(before),
         Err(_) => unreachable!(),
     }
 }

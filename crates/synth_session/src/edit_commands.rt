@@ -40,13 +40,18 @@ impl<W: Work> Session<W> {
         edits_follow();
         agreement_lasts();
         undone_trees_check_alike();
-        self.keep_for_run(alloc)?;
-        match self.program.change(alloc, &self.stop, edit, work) {
-            Ok(applied) => Ok(self.accept_edit(applied)),
-            Err(fault) => match fault {
-                TreeFault::OutOfMemory => Err(OutOfMemory),
-                _ => Ok(self.refuse(edit_refusal(fault))),
+        match self.keep_for_run(alloc) {
+            Ok(()) => match self.program.change(alloc, &self.stop, edit, work) {
+                Ok(applied) => Ok(self.accept_edit(applied)),
+                Err(fault) => match fault {
+                    TreeFault::OutOfMemory => Err(OutOfMemory),
+                    _ => Ok(self.refuse(edit_refusal(fault))),
+                },
             },
+            Err(OutOfMemory) => {
+                drop(edit);
+                Err(OutOfMemory)
+            }
         }
     }
 

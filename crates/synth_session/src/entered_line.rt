@@ -1,5 +1,6 @@
 //! What Enter does with the typed line, which is a command or phrase text.
 ghost use Rattle.std.specs.Prelude.{◌≡◌, ◌≤◌, ◌<◌, ◌^◌, IfOk, IsTrue, is_some, length, true};
+ghost use Rattle.plcs_base.specs.PlainCounts.{PlainCounts};
 ghost use Rattle.plcs_grammar.specs.Canon.{IsWellFormed};
 ghost use Rattle.plcs_grammar.specs.PlainPhrase.{category_of, plain_phrase};
 ghost use Rattle.phrase_parser.specs.Standing.{HasStanding, Standing};
@@ -12,7 +13,7 @@ ghost use Rattle.synth_session.specs.KeyReply.{Reply, Request};
 ghost use Rattle.synth_session.specs.KeyRequest.{command_line_request, command_request, line_request, text_request};
 ghost use Rattle.synth_session.specs.MemoryTaken.{command_line_takes_memory, command_takes_memory, line_takes_memory};
 ghost use Rattle.synth_session.specs.PlainSession.{PlainSession};
-ghost use Rattle.synth_session.specs.Private.Faults.{IsReadOf};
+ghost use Rattle.synth_session.specs.Private.Faults.{IsReadOf, IsTextFault};
 ghost use Rattle.synth_session.specs.SessionView.{CountsOutcome, Does, DoesByReply, IsReadyForKey, plain_session};
 
 use crate::answer::{Answer, Refusal};
@@ -158,14 +159,45 @@ impl<W: Work> Session<W> {
             (W.counts work.old) (W.counts work.new) result }
     {
         match read {
-            Ok(phrase) => {
-                if shown_len(&phrase) > LONGEST_PHRASE {
-                    return Ok(self.refuse(Refusal::PhraseFull));
-                }
-                self.edit(alloc, Edit::Enter(phrase), work)
-            }
-            Err(PhraseFault::OutOfMemory) => Err(OutOfMemory),
-            Err(fault) => Ok(self.refuse(Refusal::Phrase(fault))),
+            Ok(phrase) => self.enter_phrase(alloc, phrase, work),
+            Err(fault) => self.refuse_text(fault),
+        }
+    }
+
+    /// Enters a phrase that was read at the cursor, or refuses the key where the phrase is too long.
+    fn enter_phrase(
+        &mut self,
+        alloc: Global,
+        phrase: Phrase,
+        work: &mut W,
+    ) -> Result<Answer, OutOfMemory>
+        requires session { IsReadyForKey self.old }
+        requires sound { IsWellFormed (category_of (plain_phrase phrase)) (plain_phrase phrase) }
+        ensures does { Does true
+            (standing_entered (plain_session self.old) (Standing.phrase (plain_phrase phrase))) self.old self.new
+            result }
+        ensures counts { CountsOutcome
+            (standing_entered (plain_session self.old) (Standing.phrase (plain_phrase phrase)))
+            (W.counts work.old) (W.counts work.new) result }
+    {
+        if shown_len(&phrase) > LONGEST_PHRASE {
+            drop(phrase);
+            return Ok(self.refuse(Refusal::PhraseFull));
+        }
+        self.edit(alloc, Edit::Enter(phrase), work)
+    }
+
+    /// Refuses the key for the fault of phrase text, unless memory ran out. Nothing is counted.
+    fn refuse_text(&mut self, fault: PhraseFault) -> Result<Answer, OutOfMemory>
+        requires session { IsReadyForKey self.old }
+        ensures does { (standing : Standing) → IsTextFault standing fault →
+            Does true (standing_entered (plain_session self.old) standing) self.old self.new result }
+        ensures counts { (standing : Standing) → (counts : PlainCounts) → IsTextFault standing fault →
+            CountsOutcome (standing_entered (plain_session self.old) standing) counts counts result }
+    {
+        match fault {
+            PhraseFault::OutOfMemory => Err(OutOfMemory),
+            fault => Ok(self.refuse(Refusal::Phrase(fault))),
         }
     }
 }

@@ -99,7 +99,7 @@ impl<W: Work> Session<W> {
             self.old self.new result }
     {
         self.stop = top(&program.tree);
-        self.program = program;
+        self.program.give_way(program);
         self.run.end();
         self.edits.clear();
         self.top = 0;

@@ -15,7 +15,7 @@ ghost use Rattle.template_tree.specs.Programs.PlainTree.{Forest};
 ghost use Rattle.synth_session.specs.RunNotice.{stop_reason};
 ghost use Rattle.synth_session.specs.SessionScreen.{run_place};
 ghost use Rattle.synth_session.specs.SessionView.{plain_run};
-ghost use Rattle.synth_session.specs.Private.HeldRunKept.{CanBeAsked, GoesOnIfStands, KeepsIfStands, StaysIfHeld, StepsBack, TriesStepIfStands, WentBackIfStands};
+ghost use Rattle.synth_session.specs.Private.HeldRunKept.{CanBeAsked, GoesOnIfStands, KeepsIfStands, StaysIfHeld, StepsBack, TriesStep, TriesStepIfStands, WentBackIfStands};
 
 use back_steps::{History, NoHistory, states_keep_limits};
 use decl_table::Decls;
@@ -210,31 +210,10 @@ impl HeldRun {
             MakesFrame (Exec (C.code code.now) input.now (plain_configuration run.state))
             (plain_configuration run.state))) }
     {
-        let Some(mut run) = self.run.take() else {
+        let Some(run) = &mut self.run else {
             unreachable!()
         };
-        let mut undo = Undo::new();
-        states_keep_limits(&run.state);
-        match step(alloc, code, input, &mut run.state, &mut undo, work) {
-            Ok(StepAnswer::Stepped) => {
-                self.history.note(undo);
-                run.kept = None;
-                self.run = Some(run);
-                Ok(None)
-            }
-            Ok(StepAnswer::Stopped(reason)) => {
-                self.run = Some(run);
-                Ok(Some(stop_reason(reason)))
-            }
-            Ok(StepAnswer::Ended) => {
-                self.run = Some(run);
-                Ok(Some(RunReason::Ended))
-            }
-            Err(OutOfMemory) => {
-                self.run = Some(run);
-                Err(OutOfMemory)
-            }
-        }
+        make_step(alloc, code, input, run, &mut self.history, work)
     }
 
     /// Where the run stands, if one does.
@@ -266,6 +245,60 @@ impl HeldRun {
         match &self.run {
             Some(run) => run.state.output.as_slice(),
             None => b"",
+        }
+    }
+}
+
+/// Makes the next step of the run by the code, with this input, and notes it in the history: `None` where it was made,
+/// and else why the run stands still.
+fn make_step<W: Work, C: CodeView<W>>(
+    alloc: Global,
+    code: &C,
+    input: &[u8],
+    run: &mut Run,
+    history: &mut History,
+    work: &mut W,
+) -> Result<Option<RunReason>, OutOfMemory>
+    requires short { length input.now ≤ 4294967295 }
+    requires defined { IsSome (Exec (C.code code.now) input.now (plain_configuration run.old.state)) }
+    requires able { CanGoBack history.old (plain_configuration run.old.state) }
+    requires values { run.old.state.operands.values ≡ [] }
+    requires arguments { run.old.state.operands.arguments ≡ [] }
+    ensures tried { IfOk result (TriesStep history.old history.new run.old run.new
+        (result_of (Exec (C.code code.now) input.now (plain_configuration run.old.state)))) }
+    ensures counted { OnOk result
+        (FetchesBy (fetches_of (Exec (C.code code.now) input.now (plain_configuration run.old.state)))
+        (W.counts work.old) (W.counts work.new)) }
+    ensures counts { FetchesAtMost (fetches_of (Exec (C.code code.now) input.now (plain_configuration run.old.state)))
+        (W.counts work.old) (W.counts work.new) }
+    ensures run { OnErr result (run.new ≡ run.old) }
+    ensures history { OnErr result (history.new ≡ history.old) }
+    ensures calls { OnErr result
+        (MakesFrame (Exec (C.code code.now) input.now (plain_configuration run.old.state))
+        (plain_configuration run.old.state)) }
+    ensures able { CanGoBack history.new (plain_configuration run.new.state) }
+    ensures values { run.new.state.operands.values ≡ [] }
+    ensures arguments { run.new.state.operands.arguments ≡ [] }
+{
+    let mut undo = Undo::new();
+    states_keep_limits(&run.state);
+    match step(alloc, code, input, &mut run.state, &mut undo, work) {
+        Ok(StepAnswer::Stepped) => {
+            history.note(undo);
+            run.kept = None;
+            Ok(None)
+        }
+        Ok(StepAnswer::Stopped(reason)) => {
+            drop(undo);
+            Ok(Some(stop_reason(reason)))
+        }
+        Ok(StepAnswer::Ended) => {
+            drop(undo);
+            Ok(Some(RunReason::Ended))
+        }
+        Err(OutOfMemory) => {
+            drop(undo);
+            Err(OutOfMemory)
         }
     }
 }

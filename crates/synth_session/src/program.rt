@@ -9,12 +9,14 @@ ghost use Rattle.template_tree.specs.Programs.PlainTree.{PlainTree, roomless_nod
 ghost use Rattle.template_tree.specs.Positions.Stop.{IsStop, MayStand, plain_stop};
 ghost use Rattle.template_tree.specs.Programs.Tree.{IsTree};
 ghost use Rattle.template_tree.specs.Checks.Marks.{Verdicts};
+ghost use Rattle.plcs_code.specs.Counts.{EmitsAtMost};
 ghost use Rattle.code_patch.specs.Bill.{EmitsBill};
 ghost use Rattle.code_patch.specs.CodeEdit.{IsCodeTreeBefore};
 ghost use Rattle.decl_table.specs.Agreement.{IsDeclsOf};
 ghost use Rattle.tree_steps.specs.EditStep.{IsEditStep};
 ghost use Rattle.edit_undo.specs.EarlierTree.{RingFits, trees_before};
 ghost use Rattle.edit_undo.specs.declared.undone.UndoFault.{UndoFault};
+ghost use Rattle.unparse_layout.specs.Agreement.{IsLayoutOf};
 ghost use Rattle.unparse_layout.specs.LayoutEdit.{IsLayoutBefore};
 ghost use Rattle.session_edit.specs.Edited.{Edited, edited};
 ghost use Rattle.session_edit.specs.PlainEdit.{BringsWhatMayStand, plain_edit};
@@ -31,12 +33,13 @@ use code_patch::{CodeTree, Prepared, kept_code_ignores_room_and_elision, kept_co
 use decl_table::{
     DeclEdit, Decls, due_are_counted, put_in_place_agrees, tables_ignore_room_and_elision,
 };
-use edit_undo::{EditRing, UndoFault};
+use edit_undo::{EditRing, UndoFault, Undone};
 use plcs_base::{OutOfMemory, Work};
 use plcs_code::programs_have_one_code;
 use screen_window::LineCache;
 use session_edit::{Applied, Edit, apply, edits_at_stops_are_steps, shown_stop};
 use std::alloc::Global;
+use std::mem;
 use template_tree::{
     Change, Path, Stop, Tree, TreeFault, checks_ignore_room_and_elision, edits_ignore_room,
     room_is_not_shown,
@@ -79,6 +82,13 @@ impl<W: Work> Program<W> {
             dependents,
             lines,
         })
+    }
+
+    /// Gives way to another program.
+    pub(crate) fn give_way(&mut self, program: Program<W>)
+        ensures { self.new ≡ program }
+    {
+        drop(mem::replace(self, program));
     }
 
     /// Edits the program at the stop: its lines are forgotten, the tree is edited, then the edit is prepared in all
@@ -184,7 +194,16 @@ impl<W: Work> Program<W> {
         let undone = edits.undo(&mut self.tree)?;
         self.lines.forget();
         match self.renew(alloc, &undone.change, work) {
-            Ok(()) => Ok(stop_or_comment(&self.tree, undone.stop)),
+            Ok(()) => {
+                let Undone {
+                    stop,
+                    receipt,
+                    back,
+                    ..
+                } = undone;
+                drop((receipt, back));
+                Ok(stop_or_comment(&self.tree, stop))
+            }
             Err(OutOfMemory) => {
                 layouts_ignore_room();
                 checks_ignore_room_and_elision();
@@ -256,18 +275,46 @@ impl<W: Work> Dependents<W> {
         ensures counts { CountsProgram (phrase_count (roomless_tree tree.now)) (code_length (roomless_tree tree.now))
             (W.counts work.old) (W.counts work.new) }
     {
-        kept_code_is_told();
-        kept_code_ignores_room_and_elision();
-        programs_have_one_code();
-        let layout = Layout::new(alloc, tree)?;
-        let (decls, marks) = checked(alloc, tree, work)?;
-        let code = CodeTree::new(alloc, tree, &marks, &decls, work)?;
-        Ok(Dependents {
-            layout,
-            decls,
-            marks,
-            code,
-        })
+        match Layout::new(alloc, tree) {
+            Ok(layout) => Dependents::with_layout(alloc, tree, layout, work),
+            Err(OutOfMemory) => Err(OutOfMemory),
+        }
+    }
+
+    /// All that depends on the tree, with this layout of it: the rest is made from it.
+    fn with_layout(
+        alloc: Global,
+        tree: &Tree,
+        layout: Layout<W>,
+        work: &mut W,
+    ) -> Result<Dependents<W>, OutOfMemory>
+        requires tree { IsTree tree.now }
+        requires layout { IsLayoutOf layout tree.now }
+        ensures depend { IfOk result (λ dependents. DependOn dependents tree.now) }
+        ensures code { IfOk result (λ dependents. IsCodeFor dependents.code (roomless_tree tree.now)) }
+        ensures counts { CountsProgram (phrase_count (roomless_tree tree.now)) (code_length (roomless_tree tree.now))
+            (W.counts work.old) (W.counts work.new) }
+    {
+        match checked(alloc, tree, work) {
+            Ok((decls, marks)) => match made_code(alloc, tree, &marks, &decls, work) {
+                Ok(code) => Ok(Dependents {
+                    layout,
+                    decls,
+                    marks,
+                    code,
+                }),
+                Err(OutOfMemory) => {
+                    drop(decls);
+                    drop(marks);
+                    drop(layout);
+                    Err(OutOfMemory)
+                }
+            },
+            Err(OutOfMemory) => {
+                drop(layout);
+                Err(OutOfMemory)
+            }
+        }
     }
 
     /// Puts in place what comes of the edit of the tree that made this change, once it is prepared in each part, which
@@ -287,12 +334,44 @@ impl<W: Work> Dependents<W> {
         ensures same { IfErr result (λ _. IsSameButRoom self.old self.new) }
         ensures counts { CountsRenewal self.old tree.now change.now (W.counts work.old) (W.counts work.new) }
     {
-        let (decls, marks) = self.prepare_checks(alloc, tree, change, work)?;
-        let (layout, code) = self.prepare_layout_and_code(
-            alloc, tree, change, &decls, &marks, work,
-        )?;
-        self.commit(layout, decls, marks, code);
-        Ok(())
+        match self.prepare_checks(alloc, tree, change, work) {
+            Ok((decls, marks)) => self.renew_checked(alloc, tree, change, decls, marks, work),
+            Err(OutOfMemory) => Err(OutOfMemory),
+        }
+    }
+
+    /// Puts in place what comes of the edit of the tree that made this change, for which it is prepared in the table of
+    /// declarations and in the verdicts, once it is prepared in the layout and in the code too. Where memory runs out,
+    /// what is in place stays, apart from room for code.
+    fn renew_checked(
+        &mut self,
+        alloc: Global,
+        tree: &Tree,
+        change: &Change,
+        decls: DeclEdit,
+        marks: MarkEdit<W>,
+        work: &mut W,
+    ) -> Result<(), OutOfMemory>
+        requires tree { IsTree tree.now }
+        requires checks { AreChecksReady decls marks self.old.decls self.old.marks tree.now }
+        requires layout_before { IsLayoutBefore self.old.layout tree.now change.now }
+        requires code_before { IsCodeTreeBefore self.old.code tree.now change.now }
+        ensures depend { IfOk result (λ _. DependOn self.new tree.now) }
+        ensures code { IfOk result (λ _. IsCodeFor self.new.code (roomless_tree tree.now)) }
+        ensures same { IfErr result (λ _. IsSameButCodeRoom self.old self.new) }
+        ensures counts { EmitsBill self.old.code tree.now change.now (W.counts work.old) (W.counts work.new) }
+    {
+        match self.prepare_layout_and_code(alloc, tree, change, &decls, &marks, work) {
+            Ok((layout, code)) => {
+                self.commit(layout, decls, marks, code);
+                Ok(())
+            }
+            Err(OutOfMemory) => {
+                drop(decls);
+                drop(marks);
+                Err(OutOfMemory)
+            }
+        }
     }
 
     /// Prepares the edit of the tree that made this change in the table of declarations and in the verdicts: the
@@ -313,10 +392,16 @@ impl<W: Work> Dependents<W> {
         tables_ignore_room_and_elision();
         due_are_counted();
         let decls = self.decls.prepare(alloc, tree, change)?;
-        let marks = self
+        match self
             .marks
-            .prepare(alloc, tree, &self.decls, &decls, change, work)?;
-        Ok((decls, marks))
+            .prepare(alloc, tree, &self.decls, &decls, change, work)
+        {
+            Ok(marks) => Ok((decls, marks)),
+            Err(OutOfMemory) => {
+                drop(decls);
+                Err(OutOfMemory)
+            }
+        }
     }
 
     /// Prepares the edit of the tree that made this change in the layout and in the code, once it is prepared in the
@@ -387,6 +472,26 @@ impl<W: Work> Dependents<W> {
     }
 }
 
+/// The code of a program's tree, made by its marks and its table of declarations.
+fn made_code<W: Work>(
+    alloc: Global,
+    tree: &Tree,
+    marks: &Marks<W>,
+    decls: &Decls,
+    work: &mut W,
+) -> Result<CodeTree<W>, OutOfMemory>
+    requires tree { IsTree tree.now }
+    requires decls { IsDeclsOf decls.now tree.now.items }
+    requires marks { marks.now.verdicts ≡ Verdicts tree.now.items }
+    ensures code { IfOk result (λ code. IsCodeFor code (roomless_tree tree.now)) }
+    ensures counts { EmitsAtMost (code_length (roomless_tree tree.now)) (W.counts work.old) (W.counts work.new) }
+{
+    kept_code_is_told();
+    kept_code_ignores_room_and_elision();
+    programs_have_one_code();
+    CodeTree::new(alloc, tree, marks, decls, work)
+}
+
 /// The table of declarations of a program's tree, and the verdicts of its phrases, which depend on it.
 fn checked<W: Work>(
     alloc: Global,
@@ -400,6 +505,11 @@ fn checked<W: Work>(
         (W.counts work.old) (W.counts work.new) }
 {
     let decls = Decls::new(alloc, tree)?;
-    let marks = Marks::new(alloc, tree, &decls, work)?;
-    Ok((decls, marks))
+    match Marks::new(alloc, tree, &decls, work) {
+        Ok(marks) => Ok((decls, marks)),
+        Err(OutOfMemory) => {
+            drop(decls);
+            Err(OutOfMemory)
+        }
+    }
 }

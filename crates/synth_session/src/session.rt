@@ -19,7 +19,7 @@ ghost use Rattle.synth_session.specs.RefusalText.{refusal_text};
 ghost use Rattle.synth_session.specs.SessionScreen.{run_output};
 ghost use Rattle.synth_session.specs.Window.{with_cursor_seen};
 ghost use Rattle.synth_session.specs.Private.MemorylessKey.{HasOutcome};
-ghost use Rattle.synth_session.specs.SessionView.{Agrees, HasFittingEdits, HasFittingRun, HasProgramCode, IsPlaced, IsReadyForKey, IsSession, next_grid, plain_session, shown_grid};
+ghost use Rattle.synth_session.specs.SessionView.{Agrees, HasCode, HasFittingEdits, HasFittingRun, HasProgramCode, IsPlaced, IsReadyForKey, IsSession, next_grid, plain_session, shown_grid};
 
 use crate::answer::{Answer, Refusal};
 use crate::code_rows::CodeRows;
@@ -58,6 +58,89 @@ pub struct Session<W> {
     pub(crate) edits: EditRing,
     pub(crate) screens: Screens,
     pub(crate) code_rows: CodeRows,
+}
+
+/// What a session begins with beside its program: blank screens, and nothing that is held.
+#[derive(Drop)]
+struct Blank {
+    screens: Screens,
+    code_rows: CodeRows,
+    run: HeldRun,
+    clips: Clips,
+    edits: EditRing,
+}
+
+impl Blank {
+    /// Blank screens of this size, and nothing that is held.
+    fn new(alloc: Global, size: ScreenSize) -> Result<Blank, OutOfMemory>
+        ensures shown { IfOk result (λ blank. blank.screens.shown ≡ blank_grid size.rows size.cols) }
+        ensures next { IfOk result (λ blank. blank.screens.next ≡ blank_grid size.rows size.cols) }
+        ensures run { IfOk result (λ blank. blank.run.run ≡ None) }
+        ensures clips { IfOk result (λ blank. blank.clips.pairs ≡ []) }
+        ensures edits { IfOk result (λ blank. blank.edits ≡ []) }
+    {
+        match Screens::new(alloc, size) {
+            Ok(screens) => Blank::with_screens(alloc, screens),
+            Err(OutOfMemory) => Err(OutOfMemory),
+        }
+    }
+
+    /// These screens, rows of code, and nothing that is held.
+    fn with_screens(alloc: Global, screens: Screens) -> Result<Blank, OutOfMemory>
+        ensures screens { IfOk result (λ blank. blank.screens ≡ screens) }
+        ensures run { IfOk result (λ blank. blank.run.run ≡ None) }
+        ensures clips { IfOk result (λ blank. blank.clips.pairs ≡ []) }
+        ensures edits { IfOk result (λ blank. blank.edits ≡ []) }
+    {
+        match CodeRows::new(alloc) {
+            Ok(code_rows) => Blank::with_rows(alloc, screens, code_rows),
+            Err(OutOfMemory) => Err(OutOfMemory),
+        }
+    }
+
+    /// These screens and rows of code, and nothing that is held.
+    fn with_rows(alloc: Global, screens: Screens, code_rows: CodeRows) -> Result<Blank, OutOfMemory>
+        ensures screens { IfOk result (λ blank. blank.screens ≡ screens) }
+        ensures run { IfOk result (λ blank. blank.run.run ≡ None) }
+        ensures clips { IfOk result (λ blank. blank.clips.pairs ≡ []) }
+        ensures edits { IfOk result (λ blank. blank.edits ≡ []) }
+    {
+        match nothing_held(alloc) {
+            Ok((run, clips, edits)) => Ok(Blank {
+                screens,
+                code_rows,
+                run,
+                clips,
+                edits,
+            }),
+            Err(OutOfMemory) => Err(OutOfMemory),
+        }
+    }
+}
+
+/// No run, no clips and no edits that can be undone.
+fn nothing_held(alloc: Global) -> Result<(HeldRun, Clips, EditRing), OutOfMemory>
+    ensures run { IfOk result (λ held. held.0.run ≡ None) }
+    ensures clips { IfOk result (λ held. held.1.pairs ≡ []) }
+    ensures edits { IfOk result (λ held. held.2 ≡ []) }
+{
+    match HeldRun::new(alloc) {
+        Ok(run) => match Clips::new(alloc) {
+            Ok(clips) => match EditRing::new(alloc) {
+                Ok(edits) => Ok((run, clips, edits)),
+                Err(OutOfMemory) => {
+                    drop(clips);
+                    drop(run);
+                    Err(OutOfMemory)
+                }
+            },
+            Err(OutOfMemory) => {
+                drop(run);
+                Err(OutOfMemory)
+            }
+        },
+        Err(OutOfMemory) => Err(OutOfMemory),
+    }
 }
 
 impl<W: Work> Session<W> {
@@ -114,32 +197,81 @@ impl<W: Work> Session<W> {
         ensures counts { CountsProgram (phrase_count (roomless_tree tree)) (code_length (roomless_tree tree))
             (W.counts work.old) (W.counts work.new) }
     {
-        let screens = Screens::new(alloc, size)?;
-        let code_rows = CodeRows::new(alloc)?;
-        let run = HeldRun::new(alloc)?;
-        let clips = Clips::new(alloc)?;
-        let edits = EditRing::new(alloc)?;
-        let program = Program::new(alloc, tree, work)?;
+        match Blank::new(alloc, size) {
+            Ok(blank) => Session::begin_blank(alloc, tree, stop, input, blank, work),
+            Err(OutOfMemory) => Err(OutOfMemory),
+        }
+    }
+
+    /// A session over the tree, with the cursor at the stop, with this input, and with nothing held yet.
+    fn begin_blank(
+        alloc: Global,
+        tree: Tree,
+        stop: Stop,
+        input: Vec<u8>,
+        blank: Blank,
+        work: &mut W,
+    ) -> Result<Session<W>, OutOfMemory>
+        requires tree { IsTree tree }
+        requires stop { IsStop (roomless_tree tree).items (plain_stop stop) }
+        requires input { length input.items ≤ longest_input }
+        requires run { blank.run.run ≡ None }
+        requires clips { blank.clips.pairs ≡ [] }
+        requires edits { blank.edits ≡ [] }
+        ensures session { IfOk result (λ session. IsReadyForKey session) }
+        ensures opened { IfOk result (λ session. plain_session session
+            ≡ session_over (record { rows = blank.screens.shown.rows; cols = blank.screens.shown.cols })
+            (roomless_tree tree) (plain_stop stop) input.items) }
+        ensures shown { IfOk result (λ session. shown_grid session ≡ blank.screens.shown) }
+        ensures next { IfOk result (λ session. next_grid session ≡ blank.screens.next) }
+        ensures counts { CountsProgram (phrase_count (roomless_tree tree)) (code_length (roomless_tree tree))
+            (W.counts work.old) (W.counts work.new) }
+    {
+        match Program::new(alloc, tree, work) {
+            Ok(program) => Ok(Session::over(program, stop, input, blank)),
+            Err(OutOfMemory) => {
+                drop(blank);
+                Err(OutOfMemory)
+            }
+        }
+    }
+
+    /// A session over the program, with the cursor at the stop, with this input, and with nothing held yet.
+    fn over(program: Program<W>, stop: Stop, input: Vec<u8>, blank: Blank) -> Session<W>
+        requires agrees { Agrees program }
+        requires code { HasCode program }
+        requires stop { IsStop (roomless_tree program.tree).items (plain_stop stop) }
+        requires input { length input.items ≤ longest_input }
+        requires run { blank.run.run ≡ None }
+        requires clips { blank.clips.pairs ≡ [] }
+        requires edits { blank.edits ≡ [] }
+        ensures session { IsReadyForKey result }
+        ensures opened { plain_session result
+            ≡ session_over (record { rows = blank.screens.shown.rows; cols = blank.screens.shown.cols })
+            (roomless_tree program.tree) (plain_stop stop) input.items }
+        ensures shown { shown_grid result ≡ blank.screens.shown }
+        ensures next { next_grid result ≡ blank.screens.next }
+    {
         let mut session = Session {
             program,
             stop,
             top: 0,
             typed: ArrayVec::new(),
-            clips,
+            clips: blank.clips,
             input: ProgramInput::new(input),
             trace: false,
             message: None,
             code_from: None,
-            run,
+            run: blank.run,
             asked: 0,
             made: 0,
-            edits,
-            screens,
-            code_rows,
+            edits: blank.edits,
+            screens: blank.screens,
+            code_rows: blank.code_rows,
         };
         // No key was pressed that this could answer: the window comes to follow the cursor.
         let _ = session.accept();
-        Ok(session)
+        session
     }
 
     /// How many slots of the session's program are live. It takes no memory.

@@ -1,4 +1,4 @@
-use Rattle.std.proofs.Common.{◌≡◌, subst, sym, ◌∙◌}
+use Rattle.std.proofs.Common.{◌≡◌, subst, sym}
 use Rattle.template_tree.specs.Positions.Stop.{plain_stop}
 use Rattle.template_tree.specs.Checks.Marks.{offences}
 use Rattle.template_tree.specs.Programs.PlainTree.{PlainTree, roomless, roomless_tree}

@@ -19,9 +19,11 @@ returns g c =
     let s = c.args.self.now in
     let tree = roomless_tree c.args.program.tree in
     let seen :
-    plain_session (record s { program = c.args.program; stop = c.top-self.result; top = 0; run = c.end.new.self; edits = c.clear.new.self })
+    plain_session (record s { program = c.give_way.new.self; stop = c.top-self.result; top = 0; run = c.end.new.self; edits = c.clear.new.self })
     ≡ record (plain_session s) { tree = tree; stop = first_stop tree.items; top = 0; run = None; earlier = [] } =
-    λ i. record (plain_session s) {
+    λ i.
+    let tree = roomless_tree (c.give_way.ensures i).tree in
+    record (plain_session s) {
       tree = tree;
       stop = c.top-self.ensures.first i;
       top = 0;

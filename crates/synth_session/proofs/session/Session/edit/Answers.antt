@@ -20,36 +20,36 @@ accept_edit-requires-clause-came g c =
     let kept = c.keep_for_run.new.self in
     let ready = c.keep_for_run.ensures.ready in
     came_from c.agreement_lasts.ensures.back c.agreement_lasts.ensures.steps c.room_is_not_shown.ensures.once c.room_is_not_shown.ensures.trees
-    c.edits_follow.ensures.room kept.program.tree c.change.new.self.tree kept.edits (plain_stop kept.stop) c.in-Ok.applied
-    ready.session.agrees.tree ready.session.placed.stop c.in-Ok.ensures.undoes c.in-Ok.ensures.can_revert c.in-Ok.ensures.drawn
-    c.in-Ok.ensures.step ready.edits
+    c.edits_follow.ensures.room kept.program.tree c.change.new.self.tree kept.edits (plain_stop kept.stop) c.in-Ok-change.applied
+    ready.session.agrees.tree ready.session.placed.stop c.in-Ok-change.ensures.undoes c.in-Ok-change.ensures.can_revert c.in-Ok-change.ensures.drawn
+    c.in-Ok-change.ensures.step ready.edits
 
 pub accept_edit-requires-clause-run : goal.accept_edit-requires-clause-run
 accept_edit-requires-clause-run g c =
     let kept = c.keep_for_run.new.self in
     let run = kept.run in
     let after = roomless_tree c.change.new.self.tree in
-    let before = program_before c.in-Ok.applied after in
-    let may = subst (λ (t : PlainTree). MayGoOnIfStands t (trees_before kept.edits t) run.undos run.run) (sym c.in-Ok.ensures.undoes)
+    let before = program_before c.in-Ok-change.applied after in
+    let may = subst (λ (t : PlainTree). MayGoOnIfStands t (trees_before kept.edits t) run.undos run.run) (sym c.in-Ok-change.ensures.undoes)
     c.keep_for_run.ensures.ready.run in (
-      c.in_ok-keep_for_run.ensures.kept,
-      kept_stood before after (trees_before kept.edits before) (noted_trees before kept.edits (plain_stop kept.stop) after c.in-Ok.applied)
-          (stood_noted c.agreement_lasts.ensures.back c.undone_trees_check_alike.ensures after kept.edits (plain_stop kept.stop) c.in-Ok.applied
-          (accept_edit-requires-clause-came g c)) run.undos run.run c.in_ok-keep_for_run.ensures.kept may,
+      c.in-Ok.ensures.kept,
+      kept_stood before after (trees_before kept.edits before) (noted_trees before kept.edits (plain_stop kept.stop) after c.in-Ok-change.applied)
+          (stood_noted c.agreement_lasts.ensures.back c.undone_trees_check_alike.ensures after kept.edits (plain_stop kept.stop) c.in-Ok-change.applied
+          (accept_edit-requires-clause-came g c)) run.undos run.run c.in-Ok.ensures.kept may,
     )
 
 -- the edit is made
-pub returns-in-Ok : goal.returns-in-Ok
-returns-in-Ok g c =
+pub returns-in-Ok-change : goal.returns-in-Ok-change
+returns-in-Ok-change g c =
     let s = plain_session c.args.self.now in
     let edit = plain_edit c.args.edit in
     let kept = c.keep_for_run.new.self in
     let program = c.change.new.self in
-    let applied = c.in-Ok.applied in
+    let applied = c.in-Ok-change.applied in
     let same = c.keep_for_run.ensures.plain in
     let law = c.room_is_not_shown.ensures.counts in
-    let undoes = c.in-Ok.ensures.undoes in
-    let some = c.in_ok-keep_for_run.ensures.kept in
+    let undoes = c.in-Ok-change.ensures.undoes in
+    let some = c.in-Ok.ensures.kept in
     let counts : CountsEdit s.tree (edited s.tree s.stop edit) (g.W.Work.counts c.args.work.now) (g.W.Work.counts c.change.new.work) =
     subst (λ (t : PlainSession). CountsEdit t.tree (edited t.tree t.stop edit) (g.W.Work.counts c.args.work.now) (g.W.Work.counts c.change.new.work))
     same c.change.ensures.counts in
@@ -57,7 +57,7 @@ returns-in-Ok g c =
       does = acceptance_does c.args.self.now (record kept { program = program }) c.accept_edit.new.self c.accept_edit.result (edited_by s edit)
           (plain_session kept).tree applied.receipt.change.what applied.receipt.change.slot.0
           (session_accepted law kept program applied undoes some)
-          (edited_is law kept program applied undoes some edit c.in-Ok.ensures.became
+          (edited_is law kept program applied undoes some edit c.in-Ok-change.ensures.became
           ∙ ap (λ (t : PlainSession). edited_by t edit) same) c.keep_for_run.ensures.screens c.accept_edit.ensures;
       counts = edited_counted s edit counts;
     }
@@ -68,16 +68,16 @@ returns-in_default g c =
     let s = plain_session c.args.self.now in
     let edit = plain_edit c.args.edit in
     let kept = c.keep_for_run.new.self in
-    let fault = c.in-Err.fault in
+    let fault = c.in-Err-change.fault in
     let same = c.keep_for_run.ensures.plain in
     let refused : IsEditFault (edited s.tree s.stop edit) fault =
-    subst (λ (t : PlainSession). IsEditFault (edited t.tree t.stop edit) fault) same c.in-Err.ensures.refused in
+    subst (λ (t : PlainSession). IsEditFault (edited t.tree t.stop edit) fault) same c.in-Err-change.ensures.refused in
     let counts : CountsEdit s.tree (edited s.tree s.stop edit) (g.W.Work.counts c.args.work.now) (g.W.Work.counts c.change.new.work) =
     subst (λ (t : PlainSession). CountsEdit t.tree (edited t.tree t.stop edit) (g.W.Work.counts c.args.work.now) (g.W.Work.counts c.change.new.work))
     same c.change.ensures.counts in
     record {
       does = refusal_does c.args.self.now (record kept { program = c.change.new.self }) c.refuse.new.self c.refuse.result (edited_by s edit)
           c.edit_refusal.result fault c.edit_refusal.ensures (edited_refused s edit fault refused c.in_default.not-OutOfMemory)
-          (seen_without_room kept c.change.new.self c.in-Err.ensures.same ∙ same) c.keep_for_run.ensures.screens c.refuse.ensures;
+          (seen_without_room kept c.change.new.self c.in-Err-change.ensures.same ∙ same) c.keep_for_run.ensures.screens c.refuse.ensures;
       counts = edited_counted s edit counts;
     }
