@@ -1,8 +1,8 @@
 //! The command as clap reads it: what the words give, as texts.
 
-ghost use Rattle.std.specs.Prelude.{◌≡◌, ◌≢◌, ◌⊎◌, codes, false, map, None, Some, IfErr, IfOk};
+ghost use Rattle.std.specs.Prelude.{◌≡◌, ◌≢◌, ◌⊎◌, codes, false, map, None, Some, IfErr, IfOk, IsOkAnd};
 ghost use Rattle.std.specs.String.{string_bytes};
-ghost use Rattle.clap.specs.Words.{app_of, found_of, kind_of, new_rule, rule_of};
+ghost use Rattle.clap.specs.Words.{app_of, found_of, kind_of, new_rule, rule_of, with_rule};
 ghost use Rattle.synth_top.specs.Given.{given_in};
 ghost use Rattle.synth_top.specs.Private.ClapCommand.{bare_app, given_of_matches, option_rule, synth_app};
 ghost use Rattle.synth_top.specs.Private.PlainForms.{plain_given};
@@ -13,7 +13,7 @@ use clap::{Arg, ArgMatches, Command, Error};
 use std::alloc::{AllocError, Global};
 
 /// What the words give: a text for each option that they name, and the word that stands by itself.
-#[derive(Clone, Copy, Debug)]
+#[derive(Clone, Copy)]
 pub struct Given<'a> {
     /// How many rows the screen has.
     pub rows: Option<&'a str>,
@@ -59,13 +59,36 @@ fn read_by<'a>(command: Command<'a>, words: &'a [String]) -> Result<Given<'a>, S
 fn synth_command<'a>(alloc: Global) -> Result<Command<'a>, AllocError>
     ensures { IfOk result (λ command. app_of command ≡ synth_app) }
 {
-    bare_command(alloc)
-        .arg(option_named(alloc, "rows"))?
-        .arg(option_named(alloc, "cols"))?
-        .arg(option_named(alloc, "keys"))?
-        .arg(option_named(alloc, "input"))?
-        .arg(option_named(alloc, "make"))?
-        .arg(program_word(alloc))
+    match command_with_options(alloc) {
+        Ok(command) => command.arg(program_word(alloc)),
+        Err(AllocError) => Err(AllocError),
+    }
+}
+
+/// The command for clap with its five options, before it knows the word that stands by itself.
+fn command_with_options<'a>(alloc: Global) -> Result<Command<'a>, AllocError>
+    ensures { IfOk result (λ command. with_rule (app_of command) (new_rule (codes "program")) ≡ synth_app) }
+{
+    let rows = with_option(alloc, Ok(bare_command(alloc)), "rows");
+    let cols = with_option(alloc, rows, "cols");
+    let keys = with_option(alloc, cols, "keys");
+    let input = with_option(alloc, keys, "input");
+    with_option(alloc, input, "make")
+}
+
+/// The command for clap with one option more, where memory didn't run out before.
+fn with_option<'a>(
+    alloc: Global,
+    command: Result<Command<'a>, AllocError>,
+    name: &'a str,
+) -> Result<Command<'a>, AllocError>
+    ensures { IfOk result (λ after. IsOkAnd command.entry (λ before.
+        app_of after ≡ with_rule (app_of before) (option_rule name.entry.now))) }
+{
+    match command {
+        Ok(command) => command.arg(option_named(alloc, name)),
+        Err(AllocError) => Err(AllocError),
+    }
 }
 
 /// The command for clap without its options: it knows neither help nor version, and its first word is the

@@ -36,7 +36,7 @@ use synth_outside::{Files, Sink, SinkFault, Source, SourceFault};
 use synth_session::{Answer, Key, Refusal, Session, Tick, running_keys_have_runs, ticks_go_on};
 
 /// Whether the session of a run goes on.
-#[derive(Clone, Copy, Debug)]
+#[derive(Clone, Copy)]
 pub enum Going {
     /// It goes on.
     On,

@@ -156,5 +156,6 @@ fn edit<S: Source, K: Sink, F: Files, W: Work>(
     };
     let status = editor.run(alloc, options, keys, screen, files, work);
     editor.rescue(status, files);
+    drop(editor);
     status
 }

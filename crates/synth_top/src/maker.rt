@@ -35,7 +35,9 @@ pub fn make<K: Sink, W: Work>(alloc: Global, number: u32, screen: &mut K, work: 
     let Ok(maker) = make_program(alloc, number, work) else {
         return Status::NoMemory;
     };
-    written_as(write_summary(&maker.session, screen))
+    let written = write_summary(&maker.session, screen);
+    drop(maker);
+    written_as(written)
 }
 
 /// The maker of a program of so many statements, once it has pressed all its keys.
@@ -45,9 +47,16 @@ fn make_program<W: Work>(alloc: Global, number: u32, work: &mut W) -> Result<Mak
     ensures part { OnErr result (PartMade number (W.counts work.old) (W.counts work.new)) }
     ensures ready { IfOk result (λ maker. CanPress maker) }
 {
-    let mut maker = Maker::open(alloc, work)?;
-    maker.press_all(alloc, number, work)?;
-    Ok(maker)
+    let Ok(mut maker) = Maker::open(alloc, work) else {
+        return Err(OutOfMemory);
+    };
+    match maker.press_all(alloc, number, work) {
+        Ok(()) => Ok(maker),
+        Err(OutOfMemory) => {
+            drop(maker);
+            Err(OutOfMemory)
+        }
+    }
 }
 
 /// The maker of a program: a session, and files of its own, which its keys ask for nothing.

@@ -23,7 +23,7 @@ pub const USUAL_ROWS: u16 = 24;
 pub const USUAL_COLS: u16 = 80;
 
 /// The options: what the words ask for.
-#[derive(Clone, Copy, Debug)]
+#[derive(Clone, Copy)]
 pub struct Options<'a> {
     /// The size of the screen.
     pub size: ScreenSize,

@@ -17,7 +17,7 @@ const FEWEST_STATEMENTS: u32 = 1;
 const MOST_STATEMENTS: u32 = 2_000;
 
 /// A task: what the words of the command ask for.
-#[derive(Clone, Copy, Debug)]
+#[derive(Clone, Copy)]
 pub enum Task<'a> {
     /// To edit, with these options.
     Edit(Options<'a>),

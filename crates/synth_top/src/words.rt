@@ -34,7 +34,9 @@ fn words_after_first(alloc: Global, mut all: Args) -> Result<Vec<String>, Status
     let _ = all.next();
     let mut words = Vec::new(alloc);
     for word in all {
-        words.push(word).map_err(|_| Status::NoMemory)?;
+        let Ok(()) = words.push(word) else {
+            return Err(Status::NoMemory);
+        };
     }
     Ok(words)
 }

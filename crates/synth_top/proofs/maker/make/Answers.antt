@@ -12,15 +12,15 @@ pub returns-in_default-clause-cause : goal.returns-in_default-clause-cause
 returns-in_default-clause-cause g c = unfailed _
 
 -- the session of the maker is one
-pub write_summary-requires : goal.write_summary-requires
-write_summary-requires g c = c.in-Ok.ensures.ready.session
+pub write_summary-written-requires : goal.write_summary-written-requires
+write_summary-written-requires g c = c.in-Ok.ensures.ready.session
 
 -- all keys were pressed
 pub returns-clause-made : goal.returns-clause-made
 returns-clause-made g c =
     summary_written c.args.number (plain_session c.in-Ok.maker.session) _ _ _ _ _ _ _ _ c.in-Ok.ensures.made
-    c.write_summary.result c.written_as.result c.written_as.ensures c.write_summary.ensures
+    c.write_summary-written.result c.written_as.result c.written_as.ensures c.write_summary-written.ensures
 
 pub returns-clause-cause : goal.returns-clause-cause
 returns-clause-cause g c =
-    summary_caused c.write_summary.result c.written_as.result _ _ c.written_as.ensures c.write_summary.ensures.cause
+    summary_caused c.write_summary-written.result c.written_as.result _ _ c.written_as.ensures c.write_summary-written.ensures.cause
