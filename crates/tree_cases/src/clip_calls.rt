@@ -1,8 +1,5 @@
 //! Cases of clips.
-ghost use Rattle.std.specs.Prelude.{◌≤◌, Some};
-ghost use Rattle.clip_store.specs.ClipLimit.{IsClip};
-ghost use Rattle.plcs_grammar.specs.PlainPhrase.{plain_phrase};
-ghost use Rattle.template_tree.specs.Programs.Part.{IsPhrasePlace};
+ghost use Rattle.std.specs.Prelude.{◌≤◌};
 ghost use Rattle.clip_store.specs.PlainFragment.{IsFragment, plain_fragment, slots_of};
 
 use crate::held_nodes::copy_of;
@@ -11,8 +8,8 @@ use crate::words::phrase_of;
 use case_script::{Told, number_of};
 use clip_store::{Clips, Fragment};
 use plcs_base::{ByteOut, Name};
-use plcs_grammar::Phrase;
 use std::alloc::Global;
+use std::mem;
 
 /// What a case of clips may do with them.
 #[derive(Clone, Copy)]
@@ -43,20 +40,16 @@ pub(crate) fn play(
     let Some((name, rest)) = words.split_first() else {
         return make_new(alloc, clips, call, told);
     };
-    let name = Name::read(name.as_slice())?;
     match (call, rest) {
-        (ClipCall::Put, [other]) => put(clips, name, copy_of(alloc, held, other)?, told),
+        (ClipCall::Put, [other]) => put_copy(alloc, clips, held, name, other, told),
         (ClipCall::PutPhrase, [category, text]) => {
-            put_phrase(clips, name, phrase_of(alloc, category, text)?, told);
+            put_phrase(alloc, clips, name, category, text, told)
         }
-        (ClipCall::Get, []) => tell_clip(clips, &name, told),
-        (ClipCall::WouldHold, [slots]) => {
-            told.value_line(&clips.would_hold(&name, number_of(slots.as_slice())?));
-        }
-        (ClipCall::Reserve, []) => told.value_line(&clips.reserve(&name).is_ok()),
-        _ => return None,
+        (ClipCall::Get, []) => tell_clip(clips, name, told),
+        (ClipCall::WouldHold, [slots]) => tell_would_hold(clips, name, slots, told),
+        (ClipCall::Reserve, []) => reserve(clips, name, told),
+        _ => None,
     }
-    Some(())
 }
 
 /// Makes clips with nothing in them, where that is the call.
@@ -64,25 +57,78 @@ fn make_new(alloc: Global, clips: &mut Clips, call: ClipCall, told: &mut Told) -
     let ClipCall::New = call else {
         return None;
     };
-    *clips = Clips::new(alloc).ok()?;
-    told.line("Done");
-    Some(())
+    match Clips::new(alloc) {
+        Ok(new) => {
+            drop(mem::replace(clips, new));
+            told.line("Done");
+            Some(())
+        }
+        Err(_) => None,
+    }
 }
 
 /// Tells what clips have under the name.
-fn tell_clip(clips: &Clips, name: &Name, told: &mut Told) {
-    match clips.get(name) {
+fn tell_clip(clips: &Clips, name: &[u8], told: &mut Told) -> Option<()> {
+    let name = Name::read(name)?;
+    match clips.get(&name) {
         Some(fragment) => tell_fragment(fragment, told),
         None => told.text("None"),
     }
     told.put(b'\n');
+    Some(())
 }
 
-/// Puts the phrase of a case of clips under the name, and tells what comes of it.
-fn put_phrase(clips: &mut Clips, name: Name, phrase: Phrase, told: &mut Told)
-    requires { IsPhrasePlace (Some (plain_phrase phrase)) }
-{
-    put(clips, name, Fragment::Phrase(phrase), told);
+/// Tells whether so many slots may come under the name among clips.
+fn tell_would_hold(clips: &Clips, name: &[u8], slots: &[u8], told: &mut Told) -> Option<()> {
+    let slots = number_of(slots)?;
+    let name = Name::read(name)?;
+    told.value_line(&clips.would_hold(&name, slots));
+    Some(())
+}
+
+/// Makes room for the name among clips, and tells whether there is room.
+fn reserve(clips: &mut Clips, name: &[u8], told: &mut Told) -> Option<()> {
+    let name = Name::read(name)?;
+    told.value_line(&clips.reserve(&name).is_ok());
+    Some(())
+}
+
+/// Puts a copy of the node that is held under the other name among clips, and tells what comes of it.
+fn put_copy(
+    alloc: Global,
+    clips: &mut Clips,
+    held: &Clips,
+    name: &[u8],
+    other: &[u8],
+    told: &mut Told,
+) -> Option<()> {
+    let name = Name::read(name)?;
+    match copy_of(alloc, held, other) {
+        Some(copy) => {
+            put(clips, name, copy, told);
+            Some(())
+        }
+        None => None,
+    }
+}
+
+/// Puts the phrase of the text under the name among clips, and tells what comes of it.
+fn put_phrase(
+    alloc: Global,
+    clips: &mut Clips,
+    name: &[u8],
+    category: &[u8],
+    text: &[u8],
+    told: &mut Told,
+) -> Option<()> {
+    let name = Name::read(name)?;
+    match phrase_of(alloc, category, text) {
+        Some(phrase) => {
+            put(clips, name, Fragment::Phrase(phrase), told);
+            Some(())
+        }
+        None => None,
+    }
 }
 
 /// Answers a case of clips: puts the fragment under the name among them, and tells what was there before, or
@@ -96,11 +142,13 @@ fn put(clips: &mut Clips, name: Name, fragment: Fragment, told: &mut Told)
         Ok(Some(old)) => {
             told.text("put, before ");
             tell_fragment(&old, told);
+            drop(old);
         }
         Err((fault, own)) => {
             told.value(&fault);
             told.text(", back ");
             tell_fragment(&own, told);
+            drop(own);
         }
     }
     told.put(b'\n');

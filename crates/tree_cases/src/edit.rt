@@ -187,6 +187,7 @@ fn fill_assign(
             back.text(", ");
             tell_phrase(&own, back);
             back.text(" comes back");
+            drop(own);
             Err(fault)
         }
     }
@@ -218,6 +219,7 @@ fn set(
             back.text(", ");
             tell_place(&own, back);
             back.text(" comes back");
+            drop(own);
             Err(fault)
         }
     }
@@ -249,6 +251,7 @@ fn insert_copy(
         Ok(receipt) => Ok(receipt),
         Err((fault, own)) => {
             tell_back(&own, back);
+            drop(own);
             Err(fault)
         }
     }

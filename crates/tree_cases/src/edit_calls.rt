@@ -85,6 +85,7 @@ fn is_made(alloc: Global, tree: &mut Tree, step: Step<'_>, told: &mut Told) -> O
         other => changed(alloc, tree, other, &at, &mut back),
     };
     tell_answer(answer, &back, told);
+    drop(back);
     Some(answer.is_ok())
 }
 
@@ -95,7 +96,11 @@ fn dropped(tree: &mut Tree, at: &Path) -> Result<Change, TreeFault>
     ensures { IsTree tree.new }
 {
     match tree.drop_hole(at) {
-        Ok(receipt) => Ok(receipt.change()),
+        Ok(receipt) => {
+            let change = receipt.change();
+            drop(receipt);
+            Ok(change)
+        }
         Err(fault) => Err(fault),
     }
 }
@@ -113,7 +118,12 @@ fn changed(
     ensures { IsTree tree.new }
 {
     match made(alloc, tree, edit, at, back) {
-        Ok((receipt, _)) => Ok(receipt.change()),
+        Ok((receipt, node)) => {
+            let change = receipt.change();
+            drop(receipt);
+            drop(node);
+            Ok(change)
+        }
         Err(fault) => Err(fault),
     }
 }
@@ -199,11 +209,25 @@ fn nested(alloc: Global, tree: &mut Tree, times: u32, at: Path, template: Templa
 {
     let mut hole = at;
     for k in 0..times {
-        if tree.fill(alloc, &hole, template).is_err() || hole.try_push(0).is_err() {
+        if !is_filled(alloc, tree, &hole, template) || hole.try_push(0).is_err() {
             return k;
         }
     }
     times
+}
+
+/// Fills the hole at the path with the template, unless it is refused, and says whether it was filled.
+fn is_filled(alloc: Global, tree: &mut Tree, at: &Path, template: Template) -> bool
+    requires { IsTree tree.old }
+    ensures { IsTree tree.new }
+{
+    match tree.fill(alloc, at, template) {
+        Ok(receipt) => {
+            drop(receipt);
+            true
+        }
+        Err(_) => false,
+    }
 }
 
 /// Plays a case of many edits that are undone: those that the lines of text say. Tells each answer, and whether
@@ -224,13 +248,41 @@ fn walk_lines(alloc: Global, tree: &mut Tree, text: &[u8], told: &mut Told) -> O
 /// For a case of many edits that are undone, the words of each line of its text; a line says one edit.
 pub(crate) fn lines_of(alloc: Global, text: &[u8]) -> Option<Vec<Vec<Vec<u8>>>> {
     let mut lines = Vec::new(alloc);
-    for line in text.split(|byte| *byte == b'\n') {
-        let words = words_of(alloc, line).ok()??;
-        if !words.is_empty() {
-            lines.push(words).ok()?;
+    match push_lines(alloc, text, &mut lines) {
+        Some(()) => Some(lines),
+        None => {
+            drop(lines);
+            None
         }
     }
-    Some(lines)
+}
+
+/// For a case of many edits that are undone, puts the words of each line of its text behind the lines.
+fn push_lines(alloc: Global, text: &[u8], lines: &mut Vec<Vec<Vec<u8>>>) -> Option<()> {
+    for line in text.split(|byte| *byte == b'\n') {
+        push_line(alloc, line, lines)?;
+    }
+    Some(())
+}
+
+/// For a case of many edits that are undone, puts the words of a line of its text behind the lines, if it has some.
+fn push_line(alloc: Global, line: &[u8], lines: &mut Vec<Vec<Vec<u8>>>) -> Option<()> {
+    match words_of(alloc, line) {
+        Ok(Some(words)) => push_words(words, lines),
+        _ => None,
+    }
+}
+
+/// For a case of many edits that are undone, puts the words behind the lines, if there are some.
+fn push_words(words: Vec<Vec<u8>>, lines: &mut Vec<Vec<Vec<u8>>>) -> Option<()> {
+    if words.is_empty() {
+        drop(words);
+        return Some(());
+    }
+    match lines.push(words) {
+        Ok(()) => Some(()),
+        Err(_) => None,
+    }
 }
 
 /// The edits of a case of many, of which each line of its text says one.

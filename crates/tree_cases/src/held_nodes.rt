@@ -86,7 +86,11 @@ fn taken(alloc: Global, tree: &mut Tree, at: &Path) -> Result<(Fragment, Change)
         return Err(TreeFault::NotHere);
     };
     match tree.take(alloc, at) {
-        Ok((node, receipt)) => Ok((Fragment::Node(node), receipt.change())),
+        Ok((node, receipt)) => {
+            let change = receipt.change();
+            drop(receipt);
+            Ok((Fragment::Node(node), change))
+        }
         Err(fault) => Err(fault),
     }
 }
@@ -129,9 +133,13 @@ fn copied(alloc: Global, tree: &Tree, at: &Path) -> Result<Fragment, TreeFault>
 /// Copies the node that is held beside the tree under a name, and holds the copy under another one.
 fn copy(alloc: Global, held: &mut Clips, name: &[u8], other: &[u8], told: &mut Told) -> Option<()> {
     let other = Name::read(other)?;
-    let copy = copy_of(alloc, held, name)?;
-    hold(held, other, copy, told);
-    Some(())
+    match copy_of(alloc, held, name) {
+        Some(copy) => {
+            hold(held, other, copy, told);
+            Some(())
+        }
+        None => None,
+    }
 }
 
 /// Holds a node beside the tree under the name, and tells how many slots it has.
@@ -141,14 +149,16 @@ fn hold(held: &mut Clips, name: Name, fragment: Fragment, told: &mut Told)
 {
     let slots = fragment.slots();
     match held.put(name, fragment) {
-        Ok(_) => {
+        Ok(old) => {
             told.text("held, ");
             told.value(&slots);
             told.line(" slots");
+            drop(old);
         }
-        Err((fault, _)) => {
+        Err((fault, own)) => {
             told.value(&fault);
             told.line(", NOT HELD");
+            drop(own);
         }
     }
 }
@@ -174,11 +184,17 @@ fn insert_at(
     ensures { IsTree trees.new.tree }
 {
     let at = find(&trees.tree, at)?;
-    match copy_of(alloc, &trees.held, name)? {
-        Fragment::Node(node) => insert(alloc, &mut trees.tree, &at, node, told),
-        Fragment::Phrase(_) => return None,
+    match copy_of(alloc, &trees.held, name) {
+        Some(Fragment::Node(node)) => {
+            insert(alloc, &mut trees.tree, &at, node, told);
+            Some(())
+        }
+        Some(Fragment::Phrase(phrase)) => {
+            drop(phrase);
+            None
+        }
+        None => None,
     }
-    Some(())
 }
 
 /// Puts the node, which was held, in place of the hole at the path.
@@ -190,6 +206,7 @@ fn insert(alloc: Global, tree: &mut Tree, at: &Path, node: Node, told: &mut Told
     let mut back = Told::new(alloc);
     let answer = inserted(tree, at, node, &mut back);
     tell_answer(answer, &back, told);
+    drop(back);
 }
 
 /// Puts the node, which was held, in place of the hole at the path. Where it is refused, what comes back is told.
@@ -199,9 +216,14 @@ fn inserted(tree: &mut Tree, at: &Path, node: Node, back: &mut Told) -> Result<C
     ensures { IsTree tree.new }
 {
     match tree.insert(at, node) {
-        Ok(receipt) => Ok(receipt.change()),
+        Ok(receipt) => {
+            let change = receipt.change();
+            drop(receipt);
+            Ok(change)
+        }
         Err((fault, own)) => {
             tell_back(&own, back);
+            drop(own);
             Err(fault)
         }
     }
@@ -268,14 +290,18 @@ fn is_retaken(alloc: Global, tree: &mut Tree, at: &Path) -> bool
     requires { IsTree tree.old }
     ensures { IsTree tree.new }
 {
-    let Ok((node, receipt)) = tree.take(alloc, at) else {
-        return false;
-    };
-    match tree.insert(at, node) {
-        Ok(_) => true,
-        Err((_, node)) => {
-            tree.undo(receipt, Some(node));
-            false
-        }
+    match tree.take(alloc, at) {
+        Ok((node, taken)) => match tree.insert(at, node) {
+            Ok(inserted) => {
+                drop(inserted);
+                drop(taken);
+                true
+            }
+            Err((_, node)) => {
+                tree.undo(taken, Some(node));
+                false
+            }
+        },
+        Err(_) => false,
     }
 }

@@ -2,6 +2,7 @@
 ghost use Rattle.std.specs.Prelude.{IfSome};
 ghost use Rattle.template_tree.specs.Programs.Part.{IsPhrasePlace};
 ghost use Rattle.template_tree.specs.Programs.PlainPhrasePlace.{plain_phrase_place};
+ghost use Rattle.template_tree.specs.Programs.Program.{IsSubtree};
 ghost use Rattle.template_tree.specs.Programs.Tree.{IsTree};
 
 use crate::tell::{tell_node, tell_place};
@@ -10,7 +11,7 @@ use crate::words::{find, phrase_of};
 use case_script::{Told, number_of};
 use plcs_base::ByteOut;
 use std::alloc::Global;
-use template_tree::{Path, PhrasePlace, Tree};
+use template_tree::{Node, Path, PhrasePlace, Tree};
 
 /// Plays a case: `put_part AT PART CATEGORY TEXT` puts a phrase, and `put_part AT PART` nothing, into a part of the
 /// node there, which is lent for it in a tree with the same listing. Tells what was there, or what comes back, and
@@ -23,8 +24,14 @@ pub(crate) fn play(alloc: Global, tree: &Tree, words: &[Vec<u8>], told: &mut Tol
     };
     let part = u8::try_from(number_of(part.as_slice())?).ok()?;
     let at = find(tree, at)?;
-    let mut other = copied(alloc, tree)?;
-    put_in(alloc, &mut other, &at, part, rest, told)
+    match copied(alloc, tree) {
+        Some(mut other) => {
+            let answer = put_in(alloc, &mut other, &at, part, rest, told);
+            drop(other);
+            answer
+        }
+        None => None,
+    }
 }
 
 /// Puts what the words say into a part of the node at the path, which is lent for it.
@@ -38,10 +45,14 @@ fn put_in(
 ) -> Option<()>
     requires { IsTree tree.old }
 {
-    let place = place_of(alloc, words)?;
-    put_part(tree, at, part, place, told);
-    told.put(b'\n');
-    Some(())
+    match place_of(alloc, words) {
+        Some(place) => {
+            put_part(tree, at, part, place, told);
+            told.put(b'\n');
+            Some(())
+        }
+        None => None,
+    }
 }
 
 /// What is to be put into a part of a node that is lent.
@@ -62,7 +73,12 @@ fn copied(alloc: Global, tree: &Tree) -> Option<Tree>
 {
     let mut listing = Told::new(alloc);
     tree.put_listing(&mut listing);
-    tree_of(alloc, listing.as_bytes()).ok()
+    let copy = tree_of(alloc, listing.as_bytes());
+    drop(listing);
+    match copy {
+        Ok(copy) => Some(copy),
+        Err(_) => None,
+    }
 }
 
 /// For a case of lent nodes, puts this into a part of the one at the path, and tells what comes of it.
@@ -70,20 +86,35 @@ fn put_part(tree: &mut Tree, at: &Path, part: u8, place: PhrasePlace, told: &mut
     requires tree { IsTree tree.old }
     requires place { IsPhrasePlace (plain_phrase_place place) }
 {
-    let Some(node) = tree.node_mut(at) else {
-        told.text("None");
-        return;
-    };
+    match tree.node_mut(at) {
+        Some(node) => {
+            put_in_node(node, part, place, told);
+            told.text("; ");
+            tell_node(node, told);
+        }
+        None => {
+            told.text("None");
+            drop(place);
+        }
+    }
+}
+
+/// For a case of lent nodes, puts this into a part of the one that is lent, and tells what was there, or what comes
+/// back.
+fn put_in_node(node: &mut Node, part: u8, place: PhrasePlace, told: &mut Told)
+    requires node { IsSubtree node.old }
+    requires place { IsPhrasePlace (plain_phrase_place place) }
+{
     match node.put_part(part, place) {
         Ok(old) => {
             told.text("Ok ");
             tell_place(&old, told);
+            drop(old);
         }
         Err(own) => {
             told.text("Err ");
             tell_place(&own, told);
+            drop(own);
         }
     }
-    told.text("; ");
-    tell_node(node, told);
 }

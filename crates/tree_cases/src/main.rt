@@ -30,25 +30,48 @@ use template_tree::Tree;
 
 fn main(rt: HostRuntime) -> io::Result<()> {
     let alloc = rt.alloc();
-    let Some(mut cases) = Cases::new(alloc) else {
-        return Err(io::Error::from(ErrorKind::OutOfMemory));
-    };
-    play_script(&rt, &mut cases)
+    match Cases::new(alloc) {
+        Some(mut cases) => {
+            let played = play_script(&rt, &mut cases);
+            drop(cases);
+            played
+        }
+        None => Err(io::Error::from(ErrorKind::OutOfMemory)),
+    }
 }
 
 /// Plays the script of cases on trees that standard input has.
 fn play_script(rt: &HostRuntime, cases: &mut Cases) -> io::Result<()>
     requires { IsTree cases.old.trees.tree }
 {
+    let mut told = Told::new(rt.alloc());
+    let played = play_lines(rt, cases, &mut told);
+    drop(told);
+    played
+}
+
+/// Plays the lines of the script of cases on trees one after the other, with room for what each answers.
+fn play_lines(rt: &HostRuntime, cases: &mut Cases, told: &mut Told) -> io::Result<()>
+    requires { IsTree cases.old.trees.tree }
+{
     let alloc = rt.alloc();
-    let mut told = Told::new(alloc);
     for line in BufReader::new(alloc, rt.reader())?.lines(alloc) {
         let line = line?;
-        println!(rt; "{line}")?;
-        play_line(alloc, cases, line.as_bytes(), &mut told)?;
-        print_told(rt, &told)?;
+        let played = print_played(rt, cases, line.as_str(), told);
+        drop(line);
+        played?;
     }
     Ok(())
+}
+
+/// Writes a line of the script on trees as it is, plays it, and writes what is told.
+fn print_played(rt: &HostRuntime, cases: &mut Cases, line: &str, told: &mut Told) -> io::Result<()>
+    requires { IsTree cases.old.trees.tree }
+    ensures { IsTree cases.new.trees.tree }
+{
+    println!(rt; "{line}")?;
+    play_line(rt.alloc(), cases, line.as_bytes(), told)?;
+    print_told(rt, told)
 }
 
 /// What cases on trees are played on, and the lines of text for the next of them.
@@ -66,13 +89,20 @@ impl Cases {
     fn new(alloc: Global) -> Option<Cases>
         ensures { IfSome result (λ cases. IsTree cases.trees.tree) }
     {
-        let clips = Clips::new(alloc).ok()?;
-        let trees = Trees::new(alloc)?;
-        Some(Cases {
-            trees,
-            clips,
-            text: Vec::new(alloc),
-        })
+        match Clips::new(alloc) {
+            Ok(clips) => match Trees::new(alloc) {
+                Some(trees) => Some(Cases {
+                    trees,
+                    clips,
+                    text: Vec::new(alloc),
+                }),
+                None => {
+                    drop(clips);
+                    None
+                }
+            },
+            Err(_) => None,
+        }
     }
 }
 
@@ -105,7 +135,11 @@ fn play_case(alloc: Global, cases: &mut Cases, case: &[u8], told: &mut Told) -> 
     ensures { IsTree cases.new.trees.tree }
 {
     match words_of(alloc, case) {
-        Ok(Some(words)) => play_words(alloc, cases, words.as_slice(), told),
+        Ok(Some(words)) => {
+            let answer = play_words(alloc, cases, words.as_slice(), told);
+            drop(words);
+            answer
+        }
         _ => None,
     }
 }

@@ -32,17 +32,54 @@ pub(crate) enum Reader {
 pub(crate) fn play(tree: &Tree, reader: Reader, words: &[Vec<u8>], told: &mut Told) -> Option<()>
     requires { IsTree tree.now }
 {
-    match (reader, words) {
-        (Reader::Listing, []) => tree.put_listing(told),
-        (Reader::Nodes, []) => tell_nodes(tree, told),
-        (Reader::Slots, []) => told.value_line(&tree.slots()),
-        (Reader::Procedures, []) => told.value_line(&tree.procedures()),
-        (Reader::Node, [at]) => tell_node_at(tree, &find(tree, at)?, told),
-        (Reader::SlotsAt, [at]) => told.value_line(&tree.slots_at(&find(tree, at)?)),
-        (Reader::PathOf, [slot]) => tell_path_of(tree, number_of(slot.as_slice())?, told),
-        (Reader::PathsBelow, [slot]) => {
-            told.value_line(&live_below(tree, number_of(slot.as_slice())?));
+    match words {
+        [] => tell_whole(tree, reader, told),
+        [word] => match reader {
+            Reader::Node | Reader::SlotsAt => tell_there(tree, reader, word, told),
+            _ => tell_slot(tree, reader, word, told),
+        },
+        _ => None,
+    }
+}
+
+/// Tells what a case reads of a tree as a whole, if it is that.
+fn tell_whole(tree: &Tree, reader: Reader, told: &mut Told) -> Option<()>
+    requires { IsTree tree.now }
+{
+    match reader {
+        Reader::Listing => tree.put_listing(told),
+        Reader::Nodes => tell_nodes(tree, told),
+        Reader::Slots => told.value_line(&tree.slots()),
+        Reader::Procedures => told.value_line(&tree.procedures()),
+        _ => return None,
+    }
+    Some(())
+}
+
+/// Tells what a case reads of a tree at a path, the node there or else how many slots it has, if a path is meant.
+fn tell_there(tree: &Tree, reader: Reader, at: &[u8], told: &mut Told) -> Option<()>
+    requires { IsTree tree.now }
+{
+    match find(tree, at) {
+        Some(at) => {
+            match reader {
+                Reader::Node => tell_node_at(tree, &at, told),
+                _ => told.value_line(&tree.slots_at(&at)),
+            }
+            Some(())
         }
+        None => None,
+    }
+}
+
+/// Tells what a case reads of a tree by the number of a slot, if it is that.
+fn tell_slot(tree: &Tree, reader: Reader, slot: &[u8], told: &mut Told) -> Option<()>
+    requires { IsTree tree.now }
+{
+    let slot = number_of(slot)?;
+    match reader {
+        Reader::PathOf => tell_path_of(tree, slot, told),
+        Reader::PathsBelow => told.value_line(&live_below(tree, slot)),
         _ => return None,
     }
     Some(())

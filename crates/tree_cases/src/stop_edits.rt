@@ -67,12 +67,29 @@ fn apply_at(
     ensures { IsTree tree.new }
 {
     let at = stop_at(tree, at)?;
-    let edit = edit_of(alloc, tree, edit)?;
-    match apply(alloc, tree, &at, edit) {
-        Ok(applied) => tell_applied(tree, &applied, told),
+    match edit_of(alloc, tree, edit) {
+        Some(edit) => {
+            apply_edit(alloc, tree, &at, edit, told);
+            Some(())
+        }
+        None => None,
+    }
+}
+
+/// Makes the edit of a case at the stop, and tells its answer.
+fn apply_edit(alloc: Global, tree: &mut Tree, at: &Stop, edit: Edit, told: &mut Told)
+    requires tree { IsTree tree.old }
+    requires stop { IsStop (roomless_tree tree.old).items (plain_stop at.now) }
+    requires edit { BringsWhatMayStand edit }
+    ensures { IsTree tree.new }
+{
+    match apply(alloc, tree, at, edit) {
+        Ok(applied) => {
+            tell_applied(tree, &applied, told);
+            drop(applied);
+        }
         Err(fault) => tell_refused(tree, fault, told),
     }
-    Some(())
 }
 
 /// Makes the edit at the stop, tells its answer, and undoes it.
@@ -122,7 +139,10 @@ fn taken_at(alloc: Global, tree: &mut Tree, at: &Stop) -> Result<Option<Node>, T
     ensures node { IfOk result (λ taken. IfSome taken IsSubtree) }
 {
     match apply(alloc, tree, at, Edit::Take) {
-        Ok(applied) => Ok(applied.taken),
+        Ok(applied) => {
+            drop(applied.receipt);
+            Ok(applied.taken)
+        }
         Err(fault) => Err(fault),
     }
 }
@@ -133,12 +153,17 @@ fn insert_at(alloc: Global, tree: &mut Tree, at: &[u8], node: Node, told: &mut T
     requires node { IsSubtree node }
     ensures { IsTree tree.new }
 {
-    let at = stop_at(tree, at)?;
-    match apply(alloc, tree, &at, Edit::Insert(Fragment::Node(node))) {
-        Ok(applied) => tell_applied(tree, &applied, told),
-        Err(fault) => tell_refused(tree, fault, told),
+    match stop_at(tree, at) {
+        Some(at) => {
+            let edit = Edit::Insert(Fragment::Node(node));
+            apply_edit(alloc, tree, &at, edit, told);
+            Some(())
+        }
+        None => {
+            drop(node);
+            None
+        }
     }
-    Some(())
 }
 
 /// Tells what an edit did in which slot, where the cursor goes, how many slots are live then, and what was
@@ -252,12 +277,15 @@ const MOST_PARTS: u32 = 4;
 /// For a case of edits at the stop of the cursor, the stop that the word says.
 fn stop_of(word: &[u8]) -> Option<Stop> {
     let mut halves = word.split(|byte| *byte == b':');
-    let path = path(halves.next()?)?;
+    let said = halves.next()?;
     let part = match halves.next() {
         Some(part) => Some(u8::try_from(number_of(part)?).ok()?),
         None => None,
     };
-    Some(Stop { path, part })
+    match path(said) {
+        Some(path) => Some(Stop { path, part }),
+        None => None,
+    }
 }
 
 /// An edit that a case makes at the stop of the cursor, by its word.
@@ -289,19 +317,87 @@ pub(crate) fn edit_of(alloc: Global, tree: &Tree, words: &[Vec<u8>]) -> Option<E
     ensures { IfSome result BringsWhatMayStand }
 {
     let (word, rest) = words.split_first()?;
-    match (meaning(&STOP_EDITS, word.as_slice())?, rest) {
-        (StopEdit::Delete, []) => Some(Edit::Delete),
-        (StopEdit::Take, []) => Some(Edit::Take),
-        (StopEdit::Fill, [template]) => Some(Edit::Fill(meaning(&TEMPLATES, template)?)),
-        (StopEdit::Beside, [side]) => Some(Edit::Beside(meaning(&SIDES, side)?)),
-        (StopEdit::InsertCopy, [from]) => insertion_of_copy(alloc, tree, from),
-        (StopEdit::Enter, [category, text]) => {
-            Some(Edit::Enter(phrase_of(alloc, category, text)?))
-        }
-        (StopEdit::Insert, [category, text]) => {
-            Some(Edit::Insert(Fragment::Phrase(phrase_of(alloc, category, text)?)))
-        }
+    let edit = meaning(&STOP_EDITS, word.as_slice())?;
+    match rest {
+        [] => edit_alone(edit),
+        [said] => edit_with(alloc, tree, edit, said),
+        [category, text] => edit_with_phrase(alloc, edit, category, text),
         _ => None,
+    }
+}
+
+/// The edit at a stop that the word says, with no words behind it.
+fn edit_alone(edit: StopEdit) -> Option<Edit>
+    ensures { IfSome result BringsWhatMayStand }
+{
+    match edit {
+        StopEdit::Delete => Some(Edit::Delete),
+        StopEdit::Take => Some(Edit::Take),
+        _ => None,
+    }
+}
+
+/// The edit at a stop that the word says, with one word behind it.
+fn edit_with(alloc: Global, tree: &Tree, edit: StopEdit, said: &[u8]) -> Option<Edit>
+    requires { IsTree tree.now }
+    ensures { IfSome result BringsWhatMayStand }
+{
+    match edit {
+        StopEdit::Fill => filling(said),
+        StopEdit::Beside => hole_beside(said),
+        StopEdit::InsertCopy => insertion_of_copy(alloc, tree, said),
+        _ => None,
+    }
+}
+
+/// The edit at a stop that the word says, with a phrase behind it.
+fn edit_with_phrase(alloc: Global, edit: StopEdit, category: &[u8], text: &[u8]) -> Option<Edit>
+    ensures { IfSome result BringsWhatMayStand }
+{
+    match edit {
+        StopEdit::Enter => entry(alloc, category, text),
+        StopEdit::Insert => insertion_of_phrase(alloc, category, text),
+        _ => None,
+    }
+}
+
+/// The edit at a stop that fills a hole with the template.
+fn filling(template: &[u8]) -> Option<Edit>
+    ensures { IfSome result BringsWhatMayStand }
+{
+    match meaning(&TEMPLATES, template) {
+        Some(template) => Some(Edit::Fill(template)),
+        None => None,
+    }
+}
+
+/// The edit at a stop that puts a hole on the side of a list item.
+fn hole_beside(side: &[u8]) -> Option<Edit>
+    ensures { IfSome result BringsWhatMayStand }
+{
+    match meaning(&SIDES, side) {
+        Some(side) => Some(Edit::Beside(side)),
+        None => None,
+    }
+}
+
+/// The edit at a stop that enters the phrase of the text.
+fn entry(alloc: Global, category: &[u8], text: &[u8]) -> Option<Edit>
+    ensures { IfSome result BringsWhatMayStand }
+{
+    match phrase_of(alloc, category, text) {
+        Some(phrase) => Some(Edit::Enter(phrase)),
+        None => None,
+    }
+}
+
+/// The edit at a stop that inserts the phrase of the text.
+fn insertion_of_phrase(alloc: Global, category: &[u8], text: &[u8]) -> Option<Edit>
+    ensures { IfSome result BringsWhatMayStand }
+{
+    match phrase_of(alloc, category, text) {
+        Some(phrase) => Some(Edit::Insert(Fragment::Phrase(phrase))),
+        None => None,
     }
 }
 

@@ -42,6 +42,7 @@ pub(crate) fn tell_phrase(phrase: &Phrase, told: &mut Told) {
     let mut shown = Told::new(told.alloc());
     show(phrase, &mut shown);
     told.word(shown.as_bytes());
+    drop(shown);
 }
 
 /// Tells what stands in a part of a tree's node: a phrase, or `-` for nothing.

@@ -8,6 +8,7 @@ use case_script::Told;
 use clip_store::Clips;
 use file_store::{FileRefusal, read_listing};
 use std::alloc::Global;
+use std::mem;
 use template_tree::Tree;
 
 /// The tree that a case makes, the nodes that are held beside it, and what a tree showed before.
@@ -23,13 +24,20 @@ impl Trees {
     pub(crate) fn new(alloc: Global) -> Option<Trees>
         ensures { IfSome result (λ trees. IsTree trees.tree) }
     {
-        let held = Clips::new(alloc).ok()?;
-        let tree = new_tree(alloc)?;
-        Some(Trees {
-            tree,
-            held,
-            kept: Told::new(alloc),
-        })
+        match Clips::new(alloc) {
+            Ok(held) => match new_tree(alloc) {
+                Some(tree) => Some(Trees {
+                    tree,
+                    held,
+                    kept: Told::new(alloc),
+                }),
+                None => {
+                    drop(held);
+                    None
+                }
+            },
+            Err(_) => None,
+        }
     }
 }
 
@@ -86,10 +94,18 @@ fn make_new(alloc: Global, trees: &mut Trees, told: &mut Told) -> Option<()>
     requires { IsTree trees.old.tree }
     ensures { IsTree trees.new.tree }
 {
-    trees.held = Clips::new(alloc).ok()?;
-    trees.tree = new_tree(alloc)?;
-    told.line("Done");
-    Some(())
+    match Clips::new(alloc) {
+        Ok(held) => drop(mem::replace(&mut trees.held, held)),
+        Err(_) => return None,
+    }
+    match new_tree(alloc) {
+        Some(tree) => {
+            drop(mem::replace(&mut trees.tree, tree));
+            told.line("Done");
+            Some(())
+        }
+        None => None,
+    }
 }
 
 /// Makes the tree of the cases that of the listing, unless it is refused.
@@ -99,7 +115,7 @@ fn read(alloc: Global, tree: &mut Tree, text: &[u8], told: &mut Told) -> Option<
 {
     match tree_of(alloc, text) {
         Ok(read) => {
-            *tree = read;
+            drop(mem::replace(tree, read));
             told.line("Done");
         }
         Err(refusal) => told.value_line(&refusal),
@@ -132,6 +148,7 @@ fn compare(trees: &Trees, told: &mut Told) -> Option<()>
     let mut now = Told::new(told.alloc());
     tell_tree(&trees.tree, &mut now);
     told.value_line(&now.is_same(&trees.kept));
+    drop(now);
     Some(())
 }
 

@@ -7,7 +7,7 @@ use crate::edit_calls::lines_of;
 use crate::node_calls::tell_tree;
 use crate::stop_edits::{edit_of, stop_at, tell_applied, tell_refused};
 use crate::tell::{tell_change, tell_stop};
-use crate::walk::picture_of;
+use crate::walk::{looks_like, picture_of};
 use crate::words::path;
 use case_script::{Told, meaning};
 use edit_undo::{EditRecord, EditRing, UndoFault, edits_are_noted, toggles_leave_earlier};
@@ -45,10 +45,45 @@ pub(crate) fn noted(alloc: Global, tree: &mut Tree, text: &[u8], told: &mut Told
     requires { IsTree tree.old }
     ensures { IsTree tree.new }
 {
-    let lines = lines_of(alloc, text)?;
-    let mut ring = EditRing::new(alloc).ok()?;
-    for words in &lines {
-        step(alloc, tree, &mut ring, words.as_slice(), told)?;
+    match lines_of(alloc, text) {
+        Some(lines) => {
+            let played = play_lines(alloc, tree, lines.as_slice(), told);
+            drop(lines);
+            played
+        }
+        None => None,
+    }
+}
+
+/// Plays the steps of a case of edits that are noted, with none noted before.
+fn play_lines(alloc: Global, tree: &mut Tree, lines: &[Vec<Vec<u8>>], told: &mut Told) -> Option<()>
+    requires { IsTree tree.old }
+    ensures { IsTree tree.new }
+{
+    match EditRing::new(alloc) {
+        Ok(mut ring) => {
+            let played = play_steps(alloc, tree, &mut ring, lines, told);
+            drop(ring);
+            played
+        }
+        Err(_) => None,
+    }
+}
+
+/// Plays the steps of a case of edits that are noted one after the other, as far as they are steps.
+fn play_steps(
+    alloc: Global,
+    tree: &mut Tree,
+    ring: &mut EditRing,
+    lines: &[Vec<Vec<u8>>],
+    told: &mut Told,
+) -> Option<()>
+    requires tree { IsTree tree.old }
+    requires fits { RingFits ring.old (roomless_tree tree.old) }
+    ensures { IsTree tree.new }
+{
+    for words in lines {
+        step(alloc, tree, ring, words.as_slice(), told)?;
     }
     Some(())
 }
@@ -124,6 +159,7 @@ fn undo_newest(tree: &mut Tree, ring: &mut EditRing, told: &mut Told) -> Option<
             told.put(b'\n');
             tell_tree(tree, told);
             told.put(b'\n');
+            drop(undone);
         }
         Err(fault) => tell_fault(fault, told),
     }
@@ -146,7 +182,7 @@ fn there_and_back(
     match ring.undo(tree) {
         Ok(undone) => {
             ring.put_back(tree, undone);
-            told.line(if picture_of(alloc, tree).is_same(&before) {
+            told.line(if looks_like(alloc, tree, &before) {
                 "there and back"
             } else {
                 "THERE AND NOT BACK"
@@ -154,6 +190,7 @@ fn there_and_back(
         }
         Err(fault) => tell_fault(fault, told),
     }
+    drop(before);
     Some(())
 }
 

@@ -81,8 +81,17 @@ pub(crate) fn picture_of(alloc: Global, tree: &Tree) -> Told
 fn compare(alloc: Global, tree: &Tree, before: &Told, walked: &mut Walked)
     requires { IsTree tree.now }
 {
+    walked.same = looks_like(alloc, tree, before) && walked.same;
+}
+
+/// Whether a tree that came again looks as it did before.
+pub(crate) fn looks_like(alloc: Global, tree: &Tree, before: &Told) -> bool
+    requires { IsTree tree.now }
+{
     let after = picture_of(alloc, tree);
-    walked.same = walked.same && after.is_same(before);
+    let same = after.is_same(before);
+    drop(after);
+    same
 }
 
 /// Makes the first of the last so many edits of a walk that isn't refused and drops no hole. Gives its receipt, the
@@ -141,10 +150,12 @@ fn made_at(
         Ok((receipt, node)) => {
             tell_answer(Ok(receipt.change()), &back, &mut walked.answers);
             walked.made = walked.made.saturating_add(1);
+            drop(back);
             Some((receipt, node))
         }
         Err(fault) => {
             tell_answer(Err(fault), &back, &mut walked.answers);
+            drop(back);
             None
         }
     }
@@ -158,14 +169,33 @@ fn drop_and_undo(alloc: Global, tree: &mut Tree, at: &Path, walked: &mut Walked)
 {
     let before = picture_of(alloc, tree);
     let nothing = Told::new(alloc);
+    drop_and_compare(alloc, tree, at, &before, &nothing, walked);
+    drop(nothing);
+    drop(before);
+}
+
+/// Drops the hole at the path, as a step of a walk, unless that is refused, undoes that, and compares what the tree
+/// shows with what it showed before. Nothing comes back.
+fn drop_and_compare(
+    alloc: Global,
+    tree: &mut Tree,
+    at: &Path,
+    before: &Told,
+    nothing: &Told,
+    walked: &mut Walked,
+)
+    requires tree { IsTree tree.old }
+    ensures tree { IsTree tree.new }
+    ensures same { roomless_tree tree.new ≡ roomless_tree tree.old }
+{
     match tree.drop_hole(at) {
         Ok(receipt) => {
-            tell_answer(Ok(receipt.change()), &nothing, &mut walked.answers);
+            tell_answer(Ok(receipt.change()), nothing, &mut walked.answers);
             tree.undo(receipt, None);
             walked.made = walked.made.saturating_add(1);
-            compare(alloc, tree, &before, walked);
+            compare(alloc, tree, before, walked);
         }
-        Err(fault) => tell_answer(Err(fault), &nothing, &mut walked.answers),
+        Err(fault) => tell_answer(Err(fault), nothing, &mut walked.answers),
     }
 }
 

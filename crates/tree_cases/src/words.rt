@@ -1,5 +1,5 @@
 //! Words of cases over trees, and what they stand for.
-ghost use Rattle.std.specs.Prelude.{◌≡◌, ◌≤◌, length, IfSome, Some};
+ghost use Rattle.std.specs.Prelude.{◌≡◌, ◌<◌, ◌^◌, length, IfSome, Some};
 ghost use Rattle.plcs_grammar.specs.Canon.{IsWellFormed};
 ghost use Rattle.plcs_grammar.specs.PlainPhrase.{category_of, plain_phrase};
 ghost use Rattle.template_tree.specs.Programs.Part.{IsPhrasePlace};
@@ -60,19 +60,29 @@ pub(crate) fn phrase(alloc: Global, category: Category, text: &[u8]) -> Option<P
         return None;
     }
     match parsed(alloc, category, text) {
-        Some(phrase) if shown_len(&phrase) <= LONGEST_PHRASE => Some(phrase),
-        _ => None,
+        Some(phrase) => {
+            if shown_len(&phrase) <= LONGEST_PHRASE {
+                Some(phrase)
+            } else {
+                drop(phrase);
+                None
+            }
+        }
+        None => None,
     }
 }
 
 /// The phrase of the category for which a word of a case over trees stands as its text, whether or not it may
 /// stand in a part.
 fn parsed(alloc: Global, category: Category, text: &[u8]) -> Option<Phrase>
-    requires { length text.now ≤ 1000 }
+    requires { length text.now < 2 ^ 32 }
     ensures well_formed { IfSome result (λ phrase. IsWellFormed category (plain_phrase phrase)) }
     ensures category { IfSome result (λ phrase. category_of (plain_phrase phrase) ≡ category) }
 {
-    parse(alloc, category, text).ok()
+    match parse(alloc, category, text) {
+        Ok(phrase) => Some(phrase),
+        Err(_) => None,
+    }
 }
 
 /// What a word of a case stands for that says where the case is played: a path, or the node in a slot.
