@@ -66,7 +66,10 @@ pub(crate) fn step_of(words: &[Vec<u8>]) -> Option<Step<'_>> {
 /// The edit of a tree that the word names and the words behind it fill, as a case or a walk makes it.
 pub(crate) fn step_with(word: EditWord, words: &[Vec<u8>]) -> Option<Step<'_>> {
     let (at, rest) = words.split_first()?;
-    Some((edit_of(word, rest)?, At::of(at.as_slice())?))
+    match (edit_of(word, rest), At::of(at.as_slice())) {
+        (Some(edit), Some(at)) => Some((edit, at)),
+        _ => None,
+    }
 }
 
 /// The edit of a tree that the word names, with the words behind the path.

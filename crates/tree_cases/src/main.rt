@@ -150,7 +150,10 @@ fn play_words(alloc: Global, cases: &mut Cases, words: &[Vec<u8>], told: &mut To
     ensures { IsTree cases.new.trees.tree }
 {
     let (word, rest) = words.split_first()?;
-    play(alloc, cases, meaning(&CASES, word.as_slice())?, rest, told)
+    match meaning(&CASES, word.as_slice()) {
+        Some(case) => play(alloc, cases, case, rest, told),
+        None => None,
+    }
 }
 
 /// Plays the case on trees with these words behind its first one, if it takes them.

@@ -277,15 +277,12 @@ const MOST_PARTS: u32 = 4;
 /// For a case of edits at the stop of the cursor, the stop that the word says.
 fn stop_of(word: &[u8]) -> Option<Stop> {
     let mut halves = word.split(|byte| *byte == b':');
-    let said = halves.next()?;
+    let path = path(halves.next()?)?;
     let part = match halves.next() {
         Some(part) => Some(u8::try_from(number_of(part)?).ok()?),
         None => None,
     };
-    match path(said) {
-        Some(path) => Some(Stop { path, part }),
-        None => None,
-    }
+    Some(Stop { path, part })
 }
 
 /// An edit that a case makes at the stop of the cursor, by its word.

@@ -102,13 +102,19 @@ fn step(
     ensures fits { RingFits ring.new (roomless_tree tree.new) }
 {
     let (word, rest) = words.split_first()?;
-    match (meaning(&NOTED_STEPS, word.as_slice())?, rest) {
-        (NotedStep::Note, [at, edit @ ..]) => note_at(alloc, tree, ring, at, edit, told),
-        (NotedStep::Undo, []) => undo_newest(tree, ring, told),
-        (NotedStep::ThereAndBack, []) => there_and_back(alloc, tree, ring, told),
-        (NotedStep::Elide, [at]) => turn_comment(tree, ring, at),
-        (NotedStep::Held, []) => tell_held(ring, told),
-        _ => None,
+    let noted = meaning(&NOTED_STEPS, word.as_slice())?;
+    match rest {
+        [] => match noted {
+            NotedStep::Undo => undo_newest(tree, ring, told),
+            NotedStep::ThereAndBack => there_and_back(alloc, tree, ring, told),
+            NotedStep::Held => tell_held(ring, told),
+            _ => None,
+        },
+        [at, edit @ ..] => match noted {
+            NotedStep::Note => note_at(alloc, tree, ring, at, edit, told),
+            NotedStep::Elide if edit.is_empty() => turn_comment(tree, ring, at),
+            _ => None,
+        },
     }
 }
 
