@@ -2,5 +2,5 @@
 pub mod OneMarks
 -- `mark_of`: what the table of the program knows
 pub mod KnownPhrases
--- `follow`: what is kept of a program before an edit
+-- `follow_beside`: what is kept of a program before an edit
 pub mod FollowedEdits

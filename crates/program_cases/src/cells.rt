@@ -34,6 +34,7 @@ pub fn tell_cells(cells: &[u16], told: &mut Told) {
         bytes.put((*cell % 256) as u8);
     }
     told.word(bytes.as_bytes());
+    drop(bytes);
     tell_stretches(cells, told);
 }
 

@@ -4,7 +4,7 @@ ghost use Rattle.template_tree.specs.Programs.Tree.{IsTree};
 use crate::words::{number_at, word_at};
 use case_script::{Told, number_of};
 use decl_table::Decls;
-use plcs_base::{ByteOut, Declared, Name, PhraseAt, Scope, Slot};
+use plcs_base::{ByteOut, Declared, Name, OutOfMemory, PhraseAt, Scope, Slot};
 use std::alloc::Global;
 use template_tree::Tree;
 
@@ -33,8 +33,14 @@ pub fn declarations(
 ) -> Option<()>
     requires { IsTree tree.now }
 {
-    let decls = Decls::new(alloc, tree).ok()?;
-    answer(alloc, &decls, question, words, told)
+    match Decls::new(alloc, tree) {
+        Ok(decls) => {
+            let answered = answer(alloc, &decls, question, words, told);
+            drop(decls);
+            answered
+        }
+        Err(OutOfMemory) => None,
+    }
 }
 
 /// Asks the table of declarations.
@@ -46,21 +52,36 @@ fn answer(
     told: &mut Told,
 ) -> Option<()> {
     match question {
-        Question::Declared => tell_items(decls, Slot(number_at(words, 0)?), told),
-        Question::TypeOf => {
-            let name = Name::read(word_at(words, 1))?;
-            tell_item(decls.type_of(Slot(number_at(words, 0)?), &name), told);
+        Question::Declared => {
+            tell_items(decls, Slot(number_at(words, 0)?), told);
+            Some(())
         }
-        Question::Signature => {
-            let name = Name::read(word_at(words, 0))?;
-            told.value(&decls.signature(&name));
-        }
-        Question::Parameter => tell_parameter(alloc, decls, words, told)?,
-        Question::Uses => {
-            tell_places(decls.uses(&Name::read(word_at(words, 0))?), told);
-            told.put(b'\n');
-        }
+        Question::TypeOf => tell_type(decls, words, told),
+        Question::Signature => tell_signature(decls, words, told),
+        Question::Parameter => tell_parameter(alloc, decls, words, told),
+        Question::Uses => tell_uses(decls, words, told),
     }
+}
+
+/// Tells the effective item that the table of declarations has of a name in a procedure.
+fn tell_type(decls: &Decls, words: &[Vec<u8>], told: &mut Told) -> Option<()> {
+    let name = Name::read(word_at(words, 1))?;
+    tell_item(decls.type_of(Slot(number_at(words, 0)?), &name), told);
+    Some(())
+}
+
+/// Tells the effective heading that the table of declarations has of a name.
+fn tell_signature(decls: &Decls, words: &[Vec<u8>], told: &mut Told) -> Option<()> {
+    let name = Name::read(word_at(words, 0))?;
+    told.value(&decls.signature(&name));
+    Some(())
+}
+
+/// Tells the places of the phrases that mention a name, as the table of declarations has them.
+fn tell_uses(decls: &Decls, words: &[Vec<u8>], told: &mut Told) -> Option<()> {
+    let name = Name::read(word_at(words, 0))?;
+    tell_places(decls.uses(&name), told);
+    told.put(b'\n');
     Some(())
 }
 
@@ -100,18 +121,34 @@ fn tell_parameter(alloc: Global, decls: &Decls, words: &[Vec<u8>], told: &mut To
     };
     let slot = Slot(number_of(slot.as_slice())?);
     let name = Name::read(name.as_slice())?;
-    let earlier = names_of(alloc, earlier)?;
-    tell_item(decls.parameter_item(slot, earlier.as_slice(), &name), told);
-    Some(())
+    match names_of(alloc, earlier) {
+        Some(earlier) => {
+            tell_item(decls.parameter_item(slot, earlier.as_slice(), &name), told);
+            drop(earlier);
+            Some(())
+        }
+        None => None,
+    }
 }
 
 /// The names that the words are, of which the table of declarations is asked.
 pub fn names_of(alloc: Global, words: &[Vec<u8>]) -> Option<Vec<Name>> {
     let mut names = Vec::new(alloc);
+    match read_names(words, &mut names) {
+        Some(()) => Some(names),
+        None => {
+            drop(names);
+            None
+        }
+    }
+}
+
+/// Puts the names that the words are, of which the table of declarations is asked, behind these.
+fn read_names(words: &[Vec<u8>], names: &mut Vec<Name>) -> Option<()> {
     for word in words {
         names.push(Name::read(word.as_slice())?).ok()?;
     }
-    Some(names)
+    Some(())
 }
 
 /// Tells places that the table of declarations has of phrases, as the uses of a name: the slots and the parts.

@@ -5,7 +5,7 @@ ghost use Rattle.template_tree.specs.Programs.Tree.{IsTree};
 use crate::screens::Screens;
 use crate::words::phrase_at;
 use case_script::Told;
-use plcs_base::PhraseAt;
+use plcs_base::{OutOfMemory, PhraseAt};
 use std::alloc::{AllocError, Global};
 use template_tree::Tree;
 
@@ -27,16 +27,21 @@ impl Held {
     pub fn new(alloc: Global) -> Result<Held, AllocError>
         ensures { IfOk result (λ held. IsTree held.tree) }
     {
-        let screens = Screens::new(alloc)?;
-        let Ok(tree) = Tree::new(alloc) else {
+        let Ok(screens) = Screens::new(alloc) else {
             return Err(AllocError);
         };
-        Ok(Held {
-            tree,
-            text: Vec::new(alloc),
-            marked: None,
-            screens,
-        })
+        match Tree::new(alloc) {
+            Ok(tree) => Ok(Held {
+                tree,
+                text: Vec::new(alloc),
+                marked: None,
+                screens,
+            }),
+            Err(OutOfMemory) => {
+                drop(screens);
+                Err(AllocError)
+            }
+        }
     }
 
     /// Puts into what the script's cases hold the one phrase that is marked, in the slot and the part that are

@@ -1,7 +1,7 @@
 //! Where nodes are said to stand, beside where they were said to.
 
 use case_script::{Told, number_of};
-use plcs_base::Slot;
+use plcs_base::{OutOfMemory, Slot};
 use slot_homes::{Home, Homes, MOST_SHIFTS, WayStep};
 use std::alloc::Global;
 
@@ -15,18 +15,28 @@ pub fn homes(alloc: Global, words: &[Vec<u8>], told: &mut Told) -> Option<()> {
     let room = number_of(room.as_slice())?;
     let count = number_of(count.as_slice())?;
     let mut homes = Homes::new(alloc);
-    homes.grow(alloc, room).ok()?;
-    put_block(&mut homes, 0, count);
+    let done = match homes.grow(alloc, room) {
+        Ok(()) => tell_homes(&mut homes, count, further, told),
+        Err(OutOfMemory) => None,
+    };
+    drop(homes);
+    done
+}
+
+/// Says in a table that has room of so many nodes where they stand, from the first slot on and from each further one
+/// that is named, and tells whether each is told again, and when all is to be said anew.
+fn tell_homes(homes: &mut Homes, count: u32, further: &[Vec<u8>], told: &mut Told) -> Option<()> {
+    put_block(homes, 0, count);
     for first in further {
-        put_block(&mut homes, number_of(first.as_slice())?, count);
+        put_block(homes, number_of(first.as_slice())?, count);
     }
-    let mut all = is_told(&homes, 0, count);
+    let mut all = is_told(homes, 0, count);
     for first in further {
-        all = all && is_told(&homes, number_of(first.as_slice())?, count);
+        all = all && is_told(homes, number_of(first.as_slice())?, count);
     }
     told.text("each told: ");
     told.value(&all);
-    tell_ages(&mut homes, told);
+    tell_ages(homes, told);
     Some(())
 }
 

@@ -11,8 +11,7 @@ use crate::one_mark::OneMark;
 use crate::words::number_at;
 use case_script::Told;
 use cursor_moves::{Move, right, top};
-use decl_table::Decls;
-use plcs_base::{ByteOut, Counts, Marked, PhraseAt, Slot};
+use plcs_base::{ByteOut, Counts, Marked, OutOfMemory, PhraseAt, Slot};
 use std::alloc::Global;
 use template_tree::{Stop, Tree};
 use unparse_layout::{Layout, Line};
@@ -27,8 +26,14 @@ pub fn lines(
 ) -> Option<()>
     requires { IsTree tree.now }
 {
-    let layout = Layout::new(alloc, tree).ok()?;
-    lines_of(alloc, &layout, tree, marked, words, told)
+    match Layout::new(alloc, tree) {
+        Ok(layout) => {
+            let done = lines_of(alloc, &layout, tree, marked, words, told);
+            drop(layout);
+            done
+        }
+        Err(OutOfMemory) => None,
+    }
 }
 
 /// Tells the lines of the program's layout from this number to that one, or all of them and that none comes behind
@@ -67,10 +72,14 @@ fn tell_marked_lines(
     requires tree { IsTree tree.now }
     requires agrees { IsLayoutOf layout.now tree.now }
 {
-    let decls = Decls::new(alloc, tree).ok()?;
-    let marks = marks_of(alloc, tree, &decls)?;
-    tell_lines(layout, tree, &marks, first, last, told);
-    Some(())
+    match marks_of(alloc, tree) {
+        Some(marks) => {
+            tell_lines(layout, tree, &marks, first, last, told);
+            drop(marks);
+            Some(())
+        }
+        None => None,
+    }
 }
 
 /// Tells the lines of the screen under these marks, and what was counted.
@@ -90,7 +99,10 @@ fn tell_lines<M: Marked>(
         told.value(&k);
         told.put(b' ');
         match layout.line(tree, marks, k, &mut work) {
-            Some(line) => tell_line(&line, told),
+            Some(line) => {
+                tell_line(&line, told);
+                drop(line);
+            }
             None => told.line("None"),
         }
     }
@@ -112,8 +124,14 @@ pub fn same_lines(alloc: Global, layout: &Layout<Counts>, tree: &Tree) -> Option
     requires tree { IsTree tree.now }
     requires agrees { IsLayoutOf layout.now tree.now }
 {
-    let other = Layout::new(alloc, tree).ok()?;
-    Some(have_same_lines(layout, &other, tree))
+    match Layout::new(alloc, tree) {
+        Ok(other) => {
+            let same = have_same_lines(layout, &other, tree);
+            drop(other);
+            Some(same)
+        }
+        Err(OutOfMemory) => None,
+    }
 }
 
 /// Whether two layouts of the program have the same lines.
@@ -125,22 +143,35 @@ fn have_same_lines(layout: &Layout<Counts>, other: &Layout<Counts>, tree: &Tree)
     if layout.lines() != other.lines() {
         return false;
     }
-    let marks = OneMark(PhraseAt {
-        slot: Slot(0),
-        part: 0,
-    });
-    let mut work = Counts::default();
     for k in 0..=layout.lines() {
-        let line = layout.line(tree, &marks, k, &mut work);
-        if !is_same(line, other.line(tree, &marks, k, &mut work)) {
+        if !have_same_line(layout, other, tree, k) {
             return false;
         }
     }
     true
 }
 
+/// Whether two layouts of the program have the same line of this number, or both have none.
+fn have_same_line(layout: &Layout<Counts>, other: &Layout<Counts>, tree: &Tree, k: u32) -> bool
+    requires tree { IsTree tree.now }
+    requires agrees { IsLayoutOf layout.now tree.now }
+    requires other { IsLayoutOf other.now tree.now }
+{
+    let marks = OneMark(PhraseAt {
+        slot: Slot(0),
+        part: 0,
+    });
+    let mut work = Counts::default();
+    let line = layout.line(tree, &marks, k, &mut work);
+    let beside = other.line(tree, &marks, k, &mut work);
+    let same = is_same(&line, &beside);
+    drop(line);
+    drop(beside);
+    same
+}
+
 /// Whether two lines of the screen are the same, or none.
-fn is_same(line: Option<Line<Counts>>, other: Option<Line<Counts>>) -> bool {
+fn is_same(line: &Option<Line<Counts>>, other: &Option<Line<Counts>>) -> bool {
     match (line, other) {
         (Some(line), Some(other)) => {
             line.cells() == other.cells()
@@ -156,9 +187,14 @@ fn is_same(line: Option<Line<Counts>>, other: Option<Line<Counts>>) -> bool {
 pub fn stops(alloc: Global, tree: &Tree, told: &mut Told) -> Option<()>
     requires { IsTree tree.now }
 {
-    let layout = Layout::new(alloc, tree).ok()?;
-    tell_stops(&layout, tree, told);
-    Some(())
+    match Layout::new(alloc, tree) {
+        Ok(layout) => {
+            tell_stops(&layout, tree, told);
+            drop(layout);
+            Some(())
+        }
+        Err(OutOfMemory) => None,
+    }
 }
 
 /// Tells the line of the screen that each visible stop has in the layout.

@@ -48,22 +48,50 @@ use std::io::{BufRead, BufReader};
 fn main(rt: HostRuntime) -> io::Result<()> {
     let alloc = rt.alloc();
     let mut held = Held::new(alloc)?;
-    play_script(&rt, &mut held)
+    let played = play_script(&rt, &mut held);
+    drop(held);
+    played
 }
 
 /// Plays the script of cases on a program that standard input has.
 fn play_script(rt: &HostRuntime, held: &mut Held) -> io::Result<()>
     requires { IsTree held.old.tree }
 {
+    let mut told = Told::new(rt.alloc());
+    let played = play_lines(rt, held, &mut told);
+    drop(told);
+    played
+}
+
+/// Plays each line of the script that standard input has on a program.
+fn play_lines(rt: &HostRuntime, held: &mut Held, told: &mut Told) -> io::Result<()>
+    requires { IsTree held.old.tree }
+{
     let alloc = rt.alloc();
-    let mut told = Told::new(alloc);
     for line in BufReader::new(alloc, rt.reader())?.lines(alloc) {
-        let line = line?;
-        println!(rt; "{line}")?;
-        play_line(alloc, held, line.as_bytes(), &mut told)?;
-        print_told(rt, &told)?;
+        play_read(rt, held, line?, told)?;
     }
     Ok(())
+}
+
+/// Plays a line of the script that was read on a program.
+fn play_read(rt: &HostRuntime, held: &mut Held, line: String, told: &mut Told) -> io::Result<()>
+    requires { IsTree held.old.tree }
+    ensures { IsTree held.new.tree }
+{
+    let played = print_played(rt, held, line.as_str(), told);
+    drop(line);
+    played
+}
+
+/// Plays a line of the script on a program, and prints it and what is told of it.
+fn print_played(rt: &HostRuntime, held: &mut Held, line: &str, told: &mut Told) -> io::Result<()>
+    requires { IsTree held.old.tree }
+    ensures { IsTree held.new.tree }
+{
+    println!(rt; "{line}")?;
+    play_line(rt.alloc(), held, line.as_bytes(), told)?;
+    print_told(rt, told)
 }
 
 /// Plays a line of the script on a program: a heading, a line of text, or a case, whose answer is told.

@@ -12,7 +12,7 @@ use crate::program::path_to;
 use crate::words::{phrase_at, word_at};
 use case_script::Told;
 use decl_table::Decls;
-use plcs_base::{ByteOut, Counts, MarkKind, Marked, PhraseAt};
+use plcs_base::{ByteOut, Counts, MarkKind, Marked, OutOfMemory, PhraseAt};
 use plcs_grammar::{Phrase, show};
 use std::alloc::Global;
 use template_tree::{MOST_SLOTS, Node, PhrasePlace, Stop, Tree, part_category};
@@ -41,8 +41,14 @@ fn set(tree: &mut Tree, stop: &Stop, place: PhrasePlace) -> Option<()>
     ensures { IsTree tree.new }
 {
     match tree.set_phrase(stop, place) {
-        Ok(_) => Some(()),
-        Err(_) => None,
+        Ok(receipt) => {
+            drop(receipt);
+            Some(())
+        }
+        Err(refused) => {
+            drop(refused);
+            None
+        }
     }
 }
 
@@ -53,15 +59,24 @@ pub fn place_at(alloc: Global, tree: &Tree, stop: &Stop, text: &[u8]) -> Option<
 {
     let kind = tree.node(&stop.path)?.kind();
     let category = part_category(kind, stop.part?)?;
-    Some(PhrasePlace::Filled(phrase_of(alloc, category, text)?))
+    match phrase_of(alloc, category, text) {
+        Some(phrase) => Some(PhrasePlace::Filled(phrase)),
+        None => None,
+    }
 }
 
 /// Tells the phrases of the program with their marks, or only the one at the place.
 pub fn marks(alloc: Global, tree: &Tree, only: Option<PhraseAt>, told: &mut Told) -> Option<()>
     requires { IsTree tree.now }
 {
-    let decls = Decls::new(alloc, tree).ok()?;
-    tell_marks(alloc, tree, &decls, only, told)
+    match Decls::new(alloc, tree) {
+        Ok(decls) => {
+            let done = tell_marks(alloc, tree, &decls, only, told);
+            drop(decls);
+            done
+        }
+        Err(OutOfMemory) => None,
+    }
 }
 
 /// Tells the phrases of the program with their marks by its table, or only the one at the place.
@@ -75,9 +90,14 @@ fn tell_marks(
     requires tree { IsTree tree.now }
     requires decls { IsDeclsOf decls.now tree.now.items }
 {
-    let marks = Marks::new(alloc, tree, decls, &mut Counts::default()).ok()?;
-    tell_nodes(tree, decls, &marks, only, told);
-    Some(())
+    match Marks::new(alloc, tree, decls, &mut Counts::default()) {
+        Ok(marks) => {
+            tell_nodes(tree, decls, &marks, only, told);
+            drop(marks);
+            Some(())
+        }
+        Err(OutOfMemory) => None,
+    }
 }
 
 /// Tells the phrases of all nodes with their marks, or only the one at the place.
@@ -168,12 +188,19 @@ fn tell_mark(at: PhraseAt, phrase: &Phrase, mark: Option<Option<MarkKind>>, told
     let mut text = Told::new(told.alloc());
     show(phrase, &mut text);
     told.word_line(text.as_bytes());
+    drop(text);
 }
 
-/// The marks of all phrases of the program of which this is the table, as its lines and screens show them.
-pub fn marks_of(alloc: Global, tree: &Tree, decls: &Decls) -> Option<Marks<Counts>>
-    requires tree { IsTree tree.now }
-    requires decls { IsDeclsOf decls.now tree.now.items }
+/// The marks of all phrases of the program, as its lines and screens show them.
+pub fn marks_of(alloc: Global, tree: &Tree) -> Option<Marks<Counts>>
+    requires { IsTree tree.now }
 {
-    Marks::new(alloc, tree, decls, &mut Counts::default()).ok()
+    match Decls::new(alloc, tree) {
+        Ok(decls) => {
+            let marks = Marks::new(alloc, tree, &decls, &mut Counts::default());
+            drop(decls);
+            marks.ok()
+        }
+        Err(OutOfMemory) => None,
+    }
 }

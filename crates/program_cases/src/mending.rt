@@ -7,7 +7,7 @@ use crate::lines::same_lines;
 use crate::node_edit::{NODE_EDITS, NodeEdit, edited_at};
 use crate::program::path_to;
 use case_script::{Told, meaning, number_of};
-use plcs_base::Counts;
+use plcs_base::{Counts, OutOfMemory};
 use std::alloc::Global;
 use template_tree::{Path, Tree, TreeFault};
 use unparse_layout::Layout;
@@ -17,8 +17,14 @@ pub fn mend(alloc: Global, tree: &mut Tree, words: &[Vec<u8>], told: &mut Told) 
     requires { IsTree tree.old }
     ensures { IsTree tree.new }
 {
-    let mut layout = Layout::new(alloc, tree).ok()?;
-    mend_each(alloc, &mut layout, tree, words, told)
+    match Layout::new(alloc, tree) {
+        Ok(mut layout) => {
+            let done = mend_each(alloc, &mut layout, tree, words, told);
+            drop(layout);
+            done
+        }
+        Err(OutOfMemory) => None,
+    }
 }
 
 /// Edits a program that was read: does at each slot what the last word before it names, and mends this layout.
@@ -86,11 +92,13 @@ fn edit_and_mend(
     ensures agrees { OnSome result (IsLayoutOf layout.new tree.new) }
 {
     match edited_at(alloc, tree, edit, path) {
-        Ok(change) => {
-            let prepared = layout.prepare(alloc, tree, &change).ok()?;
-            layout.commit(prepared);
-            Some(None)
-        }
+        Ok(change) => match layout.prepare(alloc, tree, &change) {
+            Ok(prepared) => {
+                layout.commit(prepared);
+                Some(None)
+            }
+            Err(OutOfMemory) => None,
+        },
         Err(fault) => Some(Some(fault)),
     }
 }

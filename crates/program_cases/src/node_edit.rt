@@ -4,7 +4,7 @@ ghost use Rattle.template_tree.specs.Edits.Edit.{Differs};
 ghost use Rattle.template_tree.specs.Programs.Tree.{IsTree};
 
 use std::alloc::Global;
-use template_tree::{Change, Path, Side, Tree, TreeFault};
+use template_tree::{Change, Path, Receipt, Side, Tree, TreeFault};
 
 /// An edit of a program at a node.
 #[derive(Clone, Copy)]
@@ -38,17 +38,29 @@ pub fn edited_at(
     ensures refused { IfErr result (λ _. tree.new ≡ tree.old) }
 {
     match edit {
-        NodeEdit::Take => {
-            let (_, receipt) = tree.take(alloc, path)?;
-            Ok(receipt.change())
-        }
-        NodeEdit::Add(side) => {
-            let receipt = tree.add_hole(alloc, path, side)?;
-            Ok(receipt.change())
-        }
-        NodeEdit::Drop => {
-            let receipt = tree.drop_hole(path)?;
-            Ok(receipt.change())
-        }
+        NodeEdit::Take => match tree.take(alloc, path) {
+            Ok((node, receipt)) => {
+                drop(node);
+                Ok(changed(receipt))
+            }
+            Err(fault) => Err(fault),
+        },
+        NodeEdit::Add(side) => match tree.add_hole(alloc, path, side) {
+            Ok(receipt) => Ok(changed(receipt)),
+            Err(fault) => Err(fault),
+        },
+        NodeEdit::Drop => match tree.drop_hole(path) {
+            Ok(receipt) => Ok(changed(receipt)),
+            Err(fault) => Err(fault),
+        },
     }
+}
+
+/// What the edit of the receipt changed, of which nothing else is kept.
+pub fn changed(receipt: Receipt) -> Change
+    ensures { result ≡ receipt.change }
+{
+    let change = receipt.change();
+    drop(receipt);
+    change
 }

@@ -8,9 +8,10 @@ use crate::screens::draw_marked;
 use crate::view_words::ViewWords;
 use crate::words::{number_at, size_at};
 use case_script::Told;
-use plcs_base::{PhraseAt, Slot};
+use plcs_base::{OutOfMemory, PhraseAt, Slot};
 use screen_window::{Grid, Terminal, paint};
 use std::alloc::{AllocError, Global};
+use std::mem;
 use synth_outside::MemSink;
 use template_tree::Tree;
 
@@ -44,9 +45,41 @@ fn paint_some(
     requires least_cols { FEWEST_COLS ≤ size.1 }
     requires most_cols { size.1 ≤ MOST_COLS }
 {
-    let mut terminal = Terminal::new(alloc, size.0, size.1).ok()?;
-    let mut grid = Grid::new(alloc, size.0, size.1).ok()?;
-    paint_each(alloc, tree, size, count, numbers, &mut terminal, &mut grid)
+    match Terminal::new(alloc, size.0, size.1) {
+        Ok(mut terminal) => {
+            let same = paint_on(alloc, tree, size, count, numbers, &mut terminal);
+            drop(terminal);
+            same
+        }
+        Err(OutOfMemory) => None,
+    }
+}
+
+/// Paints so many random views of the program one over the other on this terminal, which shows nothing yet, and tells
+/// whether it has the cells and the cursor of each.
+fn paint_on(
+    alloc: Global,
+    tree: &Tree,
+    size: (u16, u16),
+    count: u32,
+    numbers: &mut Numbers,
+    terminal: &mut Terminal,
+) -> Option<bool>
+    requires tree { IsTree tree.now }
+    requires least_rows { FEWEST_ROWS ≤ size.0 }
+    requires most_rows { size.0 ≤ MOST_ROWS }
+    requires least_cols { FEWEST_COLS ≤ size.1 }
+    requires most_cols { size.1 ≤ MOST_COLS }
+    requires terminal { terminal.old.rows ≡ size.0 }
+{
+    match Grid::new(alloc, size.0, size.1) {
+        Ok(mut grid) => {
+            let same = paint_each(alloc, tree, size, count, numbers, terminal, &mut grid);
+            drop(grid);
+            same
+        }
+        Err(OutOfMemory) => None,
+    }
 }
 
 /// Paints so many random views of the program one over the other on this terminal, which shows this grid, and tells
@@ -71,11 +104,41 @@ fn paint_each(
 {
     let mut same = true;
     for _ in 0..count {
-        let new = drawn(alloc, tree, size, numbers)?;
-        same = is_shown(alloc, grid, &new, terminal) && same;
-        *grid = new;
+        same = paint_next(alloc, tree, size, numbers, terminal, grid)? && same;
     }
     Some(same)
+}
+
+/// Paints one random view of the program over the one that this terminal and this grid show, and tells whether the
+/// terminal has the cells and the cursor of it then.
+fn paint_next(
+    alloc: Global,
+    tree: &Tree,
+    size: (u16, u16),
+    numbers: &mut Numbers,
+    terminal: &mut Terminal,
+    grid: &mut Grid,
+) -> Option<bool>
+    requires tree { IsTree tree.now }
+    requires least_rows { FEWEST_ROWS ≤ size.0 }
+    requires most_rows { size.0 ≤ MOST_ROWS }
+    requires least_cols { FEWEST_COLS ≤ size.1 }
+    requires most_cols { size.1 ≤ MOST_COLS }
+    requires terminal { terminal.old.rows ≡ size.0 }
+    requires rows { grid.old.rows ≡ size.0 }
+    requires cols { grid.old.cols ≡ size.1 }
+    ensures terminal { terminal.new.rows ≡ size.0 }
+    ensures rows { grid.new.rows ≡ size.0 }
+    ensures cols { grid.new.cols ≡ size.1 }
+{
+    match drawn(alloc, tree, size, numbers) {
+        Some(new) => {
+            let shown = is_shown(alloc, grid, &new, terminal);
+            drop(mem::replace(grid, new));
+            Some(shown)
+        }
+        None => None,
+    }
 }
 
 /// A random view of the program, which is to be painted, on a grid of this size.
@@ -88,9 +151,16 @@ fn drawn(alloc: Global, tree: &Tree, size: (u16, u16), numbers: &mut Numbers) ->
     ensures rows { IfSome result (λ grid. grid.rows ≡ size.0) }
     ensures cols { IfSome result (λ grid. grid.cols ≡ size.1) }
 {
-    let mut grid = Grid::new(alloc, size.0, size.1).ok()?;
-    draw_random(alloc, tree, numbers, &mut grid)?;
-    Some(grid)
+    match Grid::new(alloc, size.0, size.1) {
+        Ok(mut grid) => match draw_random(alloc, tree, numbers, &mut grid) {
+            Some(()) => Some(grid),
+            None => {
+                drop(grid);
+                None
+            }
+        },
+        Err(OutOfMemory) => None,
+    }
 }
 
 /// Paints one random view over the other, and tells whether the terminal has the cells and the cursor of it
@@ -104,6 +174,7 @@ fn is_shown(alloc: Global, old: &Grid, new: &Grid, terminal: &mut Terminal) -> b
     let mut sink = MemSink::new(alloc, Vec::new(alloc));
     let painted = paint(old, new, &mut sink).is_ok();
     terminal.take(sink.bytes());
+    drop(sink);
     painted && has_cells(terminal, new)
 }
 
@@ -124,10 +195,89 @@ fn draw_random(alloc: Global, tree: &Tree, numbers: &mut Numbers, grid: &mut Gri
     ensures rows { grid.new.rows ≡ grid.old.rows }
     ensures cols { grid.new.cols ≡ grid.old.cols }
 {
-    let output = numbers.text(alloc, 400).ok()?;
-    let typed = numbers.text(alloc, 170).ok()?;
-    let message = numbers.text(alloc, 170).ok()?;
-    let code = code_rows(alloc, numbers).ok()?;
+    let mut texts = Texts::none(alloc);
+    let drawn = match texts.fill(alloc, numbers) {
+        Ok(()) => draw_texts(alloc, tree, numbers, &texts, grid),
+        Err(AllocError) => None,
+    };
+    drop(texts);
+    drawn
+}
+
+/// The texts of a view that is painted, and its rows of code.
+#[derive(Drop)]
+struct Texts {
+    output: Vec<u8>,
+    typed: Vec<u8>,
+    message: Vec<u8>,
+    code: Vec<Vec<u8>>,
+}
+
+impl Texts {
+    /// Texts without bytes, and no rows of code.
+    fn none(alloc: Global) -> Texts {
+        Texts {
+            output: Vec::new(alloc),
+            typed: Vec::new(alloc),
+            message: Vec::new(alloc),
+            code: Vec::new(alloc),
+        }
+    }
+
+    /// Makes the texts of a view that is painted random, and in one of three cases the rows of code.
+    fn fill(&mut self, alloc: Global, numbers: &mut Numbers) -> Result<(), AllocError> {
+        numbers.text(400, &mut self.output)?;
+        numbers.text(170, &mut self.typed)?;
+        numbers.text(170, &mut self.message)?;
+        fill_rows(alloc, numbers, &mut self.code)
+    }
+}
+
+/// Puts random rows of code of a view that is painted behind these, or none in two of three cases.
+fn fill_rows(
+    alloc: Global,
+    numbers: &mut Numbers,
+    rows: &mut Vec<Vec<u8>>,
+) -> Result<(), AllocError> {
+    if numbers.below(3) == 0 {
+        for _ in 0..numbers.below(100) {
+            put_row(alloc, numbers, rows)?;
+        }
+    }
+    Ok(())
+}
+
+/// Puts a random row of code of a view that is painted behind these.
+fn put_row(
+    alloc: Global,
+    numbers: &mut Numbers,
+    rows: &mut Vec<Vec<u8>>,
+) -> Result<(), AllocError> {
+    let mut row = Vec::new(alloc);
+    match numbers.text(170, &mut row) {
+        Ok(()) => {
+            rows.push(row)?;
+            Ok(())
+        }
+        Err(AllocError) => {
+            drop(row);
+            Err(AllocError)
+        }
+    }
+}
+
+/// Draws a random view of the program that has these texts, which is to be painted, on a grid.
+fn draw_texts(
+    alloc: Global,
+    tree: &Tree,
+    numbers: &mut Numbers,
+    texts: &Texts,
+    grid: &mut Grid,
+) -> Option<()>
+    requires { IsTree tree.now }
+    ensures rows { grid.new.rows ≡ grid.old.rows }
+    ensures cols { grid.new.cols ≡ grid.old.cols }
+{
     let marked = random_mark(numbers);
     let view = ViewWords {
         slot: numbers.below(60),
@@ -135,25 +285,14 @@ fn draw_random(alloc: Global, tree: &Tree, numbers: &mut Numbers, grid: &mut Gri
         top: numbers.below(30),
         run: Some(numbers.below(60)),
         point: numbers.below(2) as u16,
-        output: output.as_slice(),
-        message: message.as_slice(),
+        output: texts.output.as_slice(),
+        message: texts.message.as_slice(),
         prompt: b"statement> ",
-        typed: typed.as_slice(),
+        typed: texts.typed.as_slice(),
     };
     // What was counted isn't told here.
-    let _ = draw_marked(alloc, tree, marked, code.as_slice(), &view, grid)?;
+    let _ = draw_marked(alloc, tree, marked, texts.code.as_slice(), &view, grid)?;
     Some(())
-}
-
-/// Random rows of code of a view that is painted, or none in two of three cases.
-fn code_rows(alloc: Global, numbers: &mut Numbers) -> Result<Vec<Vec<u8>>, AllocError> {
-    let mut rows = Vec::new(alloc);
-    if numbers.below(3) == 0 {
-        for _ in 0..numbers.below(100) {
-            rows.push(numbers.text(alloc, 170)?)?;
-        }
-    }
-    Ok(rows)
 }
 
 /// A random phrase of a view that is painted, which is marked by hand, or in every other case none.

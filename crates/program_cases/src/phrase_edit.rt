@@ -4,15 +4,17 @@ ghost use Rattle.plcs_grammar.specs.PlainPhrase.{plain_phrase};
 ghost use Rattle.template_tree.specs.Edits.Edit.{Differs};
 ghost use Rattle.template_tree.specs.Programs.Part.{IsPhrasePlace};
 ghost use Rattle.template_tree.specs.Programs.PlainPhrasePlace.{plain_phrase_place};
+ghost use Rattle.template_tree.specs.Programs.Program.{IsSubtree};
 ghost use Rattle.template_tree.specs.Programs.Tree.{IsTree};
 
 use crate::marks::place_at;
+use crate::node_edit::changed;
 use crate::phrase_text::phrase_of;
 use crate::program::path_to;
 use crate::words::{number_at, word_at};
 use plcs_grammar::{Category, Phrase};
 use std::alloc::Global;
-use template_tree::{Change, Path, PhrasePlace, Stop, Tree, TreeFault, copy_path};
+use template_tree::{Change, Node, Path, PhrasePlace, Stop, Tree, TreeFault, copy_path};
 
 /// An edit of a program that puts something in.
 #[derive(Clone, Copy)]
@@ -50,24 +52,44 @@ pub fn edited_by(
     ensures refused { IfSome result (λ answer. IfErr answer (λ _. tree.new ≡ tree.old)) }
 {
     match edit {
-        PhraseEdit::Set => {
-            let part = part_in(words)?;
-            let stop = Stop {
-                path: copy_path(path),
-                part: Some(part),
-            };
-            let place = place_at(alloc, tree, &stop, word_at(words, 1))?;
-            Some(set(tree, path, part, place))
-        }
-        PhraseEdit::Empty => Some(set(tree, path, part_in(words)?, PhrasePlace::Empty)),
+        PhraseEdit::Set => fill(alloc, tree, path, words),
+        PhraseEdit::Empty => match part_in(words) {
+            Some(part) => Some(set(tree, path, part, PhrasePlace::Empty)),
+            None => None,
+        },
         PhraseEdit::Assign => {
-            let phrase = phrase_of(alloc, Category::Assignment, word_at(words, 0))?;
-            Some(assign(alloc, tree, path, phrase))
+            match phrase_of(alloc, Category::Assignment, word_at(words, 0)) {
+                Some(phrase) => Some(assign(alloc, tree, path, phrase)),
+                None => None,
+            }
         }
-        PhraseEdit::Copy => {
-            let from = path_to(tree, number_at(words, 0)?);
-            Some(copy(alloc, tree, path, &from))
-        }
+        PhraseEdit::Copy => match number_at(words, 0) {
+            Some(slot) => Some(copy(alloc, tree, path, slot)),
+            None => None,
+        },
+    }
+}
+
+/// Edits the program: fills the part of the node at the path with the phrase of the text, as the words say.
+fn fill(
+    alloc: Global,
+    tree: &mut Tree,
+    path: &Path,
+    words: &[Vec<u8>],
+) -> Option<Result<Change, TreeFault>>
+    requires { IsTree tree.old }
+    ensures tree { IsTree tree.new }
+    ensures edited { IfSome result (λ answer. IfOk answer (Differs tree.old tree.new)) }
+    ensures refused { IfSome result (λ answer. IfErr answer (λ _. tree.new ≡ tree.old)) }
+{
+    let part = part_in(words)?;
+    let stop = Stop {
+        path: copy_path(path),
+        part: Some(part),
+    };
+    match place_at(alloc, tree, &stop, word_at(words, 1)) {
+        Some(place) => Some(set(tree, path, part, place)),
+        None => None,
     }
 }
 
@@ -89,8 +111,11 @@ fn set(tree: &mut Tree, path: &Path, part: u8, place: PhrasePlace) -> Result<Cha
         part: Some(part),
     };
     match tree.set_phrase(&stop, place) {
-        Ok(receipt) => Ok(receipt.change()),
-        Err((fault, _)) => Err(fault),
+        Ok(receipt) => Ok(changed(receipt)),
+        Err((fault, place)) => {
+            drop(place);
+            Err(fault)
+        }
     }
 }
 
@@ -103,21 +128,40 @@ fn assign(alloc: Global, tree: &mut Tree, path: &Path, phrase: Phrase) -> Result
     ensures refused { IfErr result (λ _. tree.new ≡ tree.old) }
 {
     match tree.fill_assign(alloc, path, phrase) {
-        Ok(receipt) => Ok(receipt.change()),
-        Err((fault, _)) => Err(fault),
+        Ok(receipt) => Ok(changed(receipt)),
+        Err((fault, phrase)) => {
+            drop(phrase);
+            Err(fault)
+        }
     }
 }
 
-/// Edits the program: the hole at the path becomes a copy of the node at the other one.
-fn copy(alloc: Global, tree: &mut Tree, path: &Path, from: &Path) -> Result<Change, TreeFault>
+/// Edits the program: the hole at the path becomes a copy of the node in the slot.
+fn copy(alloc: Global, tree: &mut Tree, path: &Path, slot: u32) -> Result<Change, TreeFault>
     requires { IsTree tree.old }
     ensures tree { IsTree tree.new }
     ensures edited { IfOk result (Differs tree.old tree.new) }
     ensures refused { IfErr result (λ _. tree.new ≡ tree.old) }
 {
-    let node = tree.copy_node(alloc, from)?;
+    match tree.copy_node(alloc, &path_to(tree, slot)) {
+        Ok(node) => put(tree, path, node),
+        Err(fault) => Err(fault),
+    }
+}
+
+/// Edits the program: the hole at the path becomes this node.
+fn put(tree: &mut Tree, path: &Path, node: Node) -> Result<Change, TreeFault>
+    requires tree { IsTree tree.old }
+    requires node { IsSubtree node }
+    ensures tree { IsTree tree.new }
+    ensures edited { IfOk result (Differs tree.old tree.new) }
+    ensures refused { IfErr result (λ _. tree.new ≡ tree.old) }
+{
     match tree.insert(path, node) {
-        Ok(receipt) => Ok(receipt.change()),
-        Err((fault, _)) => Err(fault),
+        Ok(receipt) => Ok(changed(receipt)),
+        Err((fault, node)) => {
+            drop(node);
+            Err(fault)
+        }
     }
 }

@@ -15,9 +15,14 @@ pub fn phrase_of(alloc: Global, category: Category, text: &[u8]) -> Option<Phras
     if text.len() > 1000 {
         return None;
     }
-    let phrase = parse(alloc, category, text).ok()?;
-    if shown_len(&phrase) > LONGEST_PHRASE {
-        return None;
+    match parse(alloc, category, text) {
+        Ok(phrase) => {
+            if shown_len(&phrase) > LONGEST_PHRASE {
+                drop(phrase);
+                return None;
+            }
+            Some(phrase)
+        }
+        Err(_) => None,
     }
-    Some(phrase)
 }

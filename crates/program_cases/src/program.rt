@@ -6,8 +6,9 @@ use crate::lines::same_lines;
 use crate::words::number_at;
 use case_script::{Told, number_of};
 use file_store::read_listing;
-use plcs_base::{Counts, Slot};
+use plcs_base::{Counts, OutOfMemory, Slot};
 use std::alloc::{AllocError, Global};
+use std::mem;
 use template_tree::{Path, Tree};
 use unparse_layout::Layout;
 
@@ -17,9 +18,14 @@ pub fn read_program(alloc: Global, tree: &mut Tree, text: &[Vec<u8>], told: &mut
     requires { IsTree tree.old }
     ensures { IsTree tree.new }
 {
-    let listing = listing_of(alloc, text).ok()?;
-    take_listing(alloc, tree, listing.as_slice(), told);
-    Some(())
+    match listing_of(alloc, text) {
+        Ok(listing) => {
+            take_listing(alloc, tree, listing.as_slice(), told);
+            drop(listing);
+            Some(())
+        }
+        Err(AllocError) => None,
+    }
 }
 
 /// The lines that are read as the program from which cases derive what they tell, as one text, each with its
@@ -41,7 +47,7 @@ fn take_listing(alloc: Global, tree: &mut Tree, listing: &[u8], told: &mut Told)
 {
     match read_listing(alloc, listing) {
         Ok(read) => {
-            *tree = read;
+            drop(mem::replace(tree, read));
             told.value(&tree.slots());
             told.text(" slots");
         }
@@ -56,7 +62,10 @@ pub fn take(alloc: Global, tree: &mut Tree, words: &[Vec<u8>], told: &mut Told) 
 {
     let path = path_to(tree, number_at(words, 0)?);
     match tree.take(alloc, &path) {
-        Ok(_) => told.text("taken"),
+        Ok(taken) => {
+            drop(taken);
+            told.text("taken");
+        }
         Err(fault) => told.value(&fault),
     }
     Some(())
@@ -75,8 +84,14 @@ pub fn elide(alloc: Global, tree: &mut Tree, words: &[Vec<u8>], told: &mut Told)
     requires { IsTree tree.old }
     ensures { IsTree tree.new }
 {
-    let mut layout = Layout::new(alloc, tree).ok()?;
-    turn_each(alloc, &mut layout, tree, words, told)
+    match Layout::new(alloc, tree) {
+        Ok(mut layout) => {
+            let done = turn_each(alloc, &mut layout, tree, words, told);
+            drop(layout);
+            done
+        }
+        Err(OutOfMemory) => None,
+    }
 }
 
 /// Edits a program that was read: turns the comments in these slots, and mends this layout.
@@ -92,13 +107,31 @@ fn turn_each(
     ensures { IsTree tree.new }
 {
     for word in words {
-        let hidden = turn(layout, tree, number_of(word.as_slice())?);
-        told.value(&hidden);
-        told.text(", ");
-        told.value(&layout.lines());
-        told.text(" lines, same as made anew: ");
-        told.value_line(&same_lines(alloc, layout, tree)?);
+        tell_turned(alloc, layout, tree, number_of(word.as_slice())?, told)?;
     }
+    Some(())
+}
+
+/// Turns the comment in the slot of the program and mends the layout, and tells whether the refinement is hidden now,
+/// how many lines there are, and whether a layout that is made anew has the same.
+fn tell_turned(
+    alloc: Global,
+    layout: &mut Layout<Counts>,
+    tree: &mut Tree,
+    slot: u32,
+    told: &mut Told,
+) -> Option<()>
+    requires tree { IsTree tree.old }
+    requires agrees { IsLayoutOf layout.old tree.old }
+    ensures tree { IsTree tree.new }
+    ensures agrees { IsLayoutOf layout.new tree.new }
+{
+    let hidden = turn(layout, tree, slot);
+    told.value(&hidden);
+    told.text(", ");
+    told.value(&layout.lines());
+    told.text(" lines, same as made anew: ");
+    told.value_line(&same_lines(alloc, layout, tree)?);
     Some(())
 }
 

@@ -1,7 +1,7 @@
 //! Numbers that look random.
 ghost use Rattle.std.specs.Prelude.{◌<◌};
 
-use std::alloc::{AllocError, Global};
+use std::alloc::AllocError;
 
 /// Numbers that look drawn by lot, each made from the one before.
 #[derive(Drop)]
@@ -27,12 +27,11 @@ impl Numbers {
         (self.last >> 8) % bound
     }
 
-    /// A text that looks random of less than so many bytes, of which one in eight is any byte, one ends a line, and
-    /// the others are printable.
-    pub fn text(&mut self, alloc: Global, bound: u32) -> Result<Vec<u8>, AllocError>
+    /// Puts a text that looks random of less than so many bytes behind this one: of its bytes one in eight is any byte,
+    /// one ends a line, and the others are printable.
+    pub fn text(&mut self, bound: u32, text: &mut Vec<u8>) -> Result<(), AllocError>
         requires { 0 < bound }
     {
-        let mut text = Vec::new(alloc);
         for _ in 0..self.below(bound) {
             let byte = match self.below(24) {
                 0..=2 => self.below(256),
@@ -42,6 +41,6 @@ impl Numbers {
             };
             text.push(byte as u8)?;
         }
-        Ok(text)
+        Ok(())
     }
 }

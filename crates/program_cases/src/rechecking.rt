@@ -39,12 +39,36 @@ pub fn recheck(
     requires { IsTree tree.old }
     ensures { IsTree tree.new }
 {
-    let names = names_of(alloc, words)?;
-    let Ok(checks) = Checks::new(alloc, tree) else {
-        return None;
-    };
-    let mut checks = checks;
-    recheck_each(alloc, &mut checks, tree, edits, names.as_slice(), told)
+    match names_of(alloc, words) {
+        Some(names) => {
+            let done = recheck_with(alloc, tree, edits, names.as_slice(), told);
+            drop(names);
+            done
+        }
+        None => None,
+    }
+}
+
+/// Edits the program, a line for each edit, and checks again what is due each time, where these are the names of which
+/// the table is asked.
+fn recheck_with(
+    alloc: Global,
+    tree: &mut Tree,
+    edits: &[Vec<u8>],
+    names: &[Name],
+    told: &mut Told,
+) -> Option<()>
+    requires { IsTree tree.old }
+    ensures { IsTree tree.new }
+{
+    match Checks::new(alloc, tree) {
+        Ok(mut checks) => {
+            let done = recheck_each(alloc, &mut checks, tree, edits, names, told);
+            drop(checks);
+            done
+        }
+        Err(OutOfMemory) => None,
+    }
 }
 
 impl Checks {
@@ -54,9 +78,16 @@ impl Checks {
         ensures decls { IfOk result (λ checks. IsDeclsOf checks.decls tree.now.items) }
         ensures marks { IfOk result (λ checks. checks.marks.verdicts ≡ Verdicts tree.now.items) }
     {
-        let decls = Decls::new(alloc, tree)?;
-        let marks = Marks::new(alloc, tree, &decls, &mut Counts::default())?;
-        Ok(Checks { decls, marks })
+        match Decls::new(alloc, tree) {
+            Ok(decls) => match Marks::new(alloc, tree, &decls, &mut Counts::default()) {
+                Ok(marks) => Ok(Checks { decls, marks }),
+                Err(OutOfMemory) => {
+                    drop(decls);
+                    Err(OutOfMemory)
+                }
+            },
+            Err(OutOfMemory) => Err(OutOfMemory),
+        }
     }
 
     /// The edit of the tree that made this change, prepared in what is kept.
@@ -77,11 +108,19 @@ impl Checks {
         ensures marks_ready { IfOk result (λ edits. HasRoomForEdit edits.1 self.new.marks) }
     {
         tables_ignore_room_and_elision();
-        let decls = self.decls.prepare(alloc, tree, change)?;
-        let marks = self
-            .marks
-            .prepare(alloc, tree, &self.decls, &decls, change, work)?;
-        Ok((decls, marks))
+        match self.decls.prepare(alloc, tree, change) {
+            Ok(decls) => match self
+                .marks
+                .prepare(alloc, tree, &self.decls, &decls, change, work)
+            {
+                Ok(marks) => Ok((decls, marks)),
+                Err(OutOfMemory) => {
+                    drop(decls);
+                    Err(OutOfMemory)
+                }
+            },
+            Err(OutOfMemory) => Err(OutOfMemory),
+        }
     }
 
     /// Puts a prepared edit in place in what is kept.
@@ -126,12 +165,35 @@ fn recheck_each(
     ensures { IsTree tree.new }
 {
     for line in edits {
-        let Ok(Some(words)) = words_of(alloc, line.as_slice()) else {
-            return None;
-        };
-        tell_rechecked(alloc, checks, tree, words.as_slice(), names, told)?;
+        tell_line_rechecked(alloc, checks, tree, line.as_slice(), names, told)?;
     }
     Some(())
+}
+
+/// Edits the program as the line says and checks again what is due, and tells of that, or why the edit is refused.
+fn tell_line_rechecked(
+    alloc: Global,
+    checks: &mut Checks,
+    tree: &mut Tree,
+    line: &[u8],
+    names: &[Name],
+    told: &mut Told,
+) -> Option<()>
+    requires tree { IsTree tree.old }
+    requires decls { IsDeclsOf checks.old.decls tree.old.items }
+    requires marks { checks.old.marks.verdicts ≡ Verdicts tree.old.items }
+    ensures tree { IsTree tree.new }
+    ensures decls { OnSome result (IsDeclsOf checks.new.decls tree.new.items) }
+    ensures marks { OnSome result (checks.new.marks.verdicts ≡ Verdicts tree.new.items) }
+{
+    match words_of(alloc, line) {
+        Ok(Some(words)) => {
+            let done = tell_rechecked(alloc, checks, tree, words.as_slice(), names, told);
+            drop(words);
+            done
+        }
+        _ => None,
+    }
 }
 
 /// Edits the program as the words say and checks again what is due, and tells of that, or why the edit is refused.
@@ -200,15 +262,44 @@ fn follow(
     ensures decls { OnOk result (IsDeclsOf checks.new.decls tree.now.items) }
     ensures marks { OnOk result (checks.new.marks.verdicts ≡ Verdicts tree.now.items) }
 {
+    match Checks::new(alloc, tree) {
+        Ok(anew) => {
+            let followed = follow_beside(alloc, checks, tree, change, names, &anew, told);
+            drop(anew);
+            followed
+        }
+        Err(OutOfMemory) => Err(OutOfMemory),
+    }
+}
+
+/// Follows an edit of the program that made this change, where this is what is made anew.
+fn follow_beside(
+    alloc: Global,
+    checks: &mut Checks,
+    tree: &Tree,
+    change: &Change,
+    names: &[Name],
+    anew: &Checks,
+    told: &mut Told,
+) -> Result<(), OutOfMemory>
+    requires tree { IsTree tree.now }
+    requires before { (before : PlainTree) × IsDeclsBefore checks.old.decls before tree.now change.now
+        × (checks.old.marks.verdicts ≡ Verdicts before.items) }
+    ensures decls { OnOk result (IsDeclsOf checks.new.decls tree.now.items) }
+    ensures marks { OnOk result (checks.new.marks.verdicts ≡ Verdicts tree.now.items) }
+{
     put_in_place_agrees();
-    let anew = Checks::new(alloc, tree)?;
     let mut work = Counts::default();
-    let (edit, checked) = checks.prepared(alloc, tree, change, &mut work)?;
-    tell_due(&edit, &work, told);
-    let same_before = checks.are_same_after(&edit, &checked, &anew);
-    checks.put_in_place(edit, checked);
-    told.value_line(&(same_before && checks.are_same(&anew, names)));
-    Ok(())
+    match checks.prepared(alloc, tree, change, &mut work) {
+        Ok((edit, checked)) => {
+            tell_due(&edit, &work, told);
+            let same_before = checks.are_same_after(&edit, &checked, anew);
+            checks.put_in_place(edit, checked);
+            told.value_line(&(same_before && checks.are_same(anew, names)));
+            Ok(())
+        }
+        Err(OutOfMemory) => Err(OutOfMemory),
+    }
 }
 
 /// Tells which phrases went in an edit, which are due for a check, and how many were checked again.

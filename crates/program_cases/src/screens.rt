@@ -1,6 +1,9 @@
 //! Views drawn on grids, and grids painted one over the other.
 ghost use Rattle.std.specs.Prelude.{◌≡◌, ◌<◌, ◌≤◌, ◌^◌};
+ghost use Rattle.template_tree.specs.Programs.PlainTree.{roomless};
 ghost use Rattle.template_tree.specs.Programs.Tree.{IsTree};
+ghost use Rattle.unparse_layout.specs.Agreement.{IsLayoutOf};
+ghost use Rattle.screen_window.specs.HeldLines.{HoldLinesOf};
 ghost use Rattle.screen_window.specs.declared.limit.TheConstants.{FEWEST_COLS, FEWEST_ROWS, MOST_COLS, MOST_ROWS};
 
 use crate::cells::tell_row;
@@ -10,8 +13,7 @@ use crate::program::path_to;
 use crate::view_words::{ViewWords, view_words};
 use crate::words::size_at;
 use case_script::{Told, numbers_of};
-use decl_table::Decls;
-use plcs_base::{ByteOut, Counts, Marked, PhraseAt};
+use plcs_base::{ByteOut, Counts, Marked, OutOfMemory, PhraseAt};
 use screen_window::{FEWEST_COLS, FEWEST_ROWS, Grid, LineCache, View, compose, paint};
 use std::alloc::{AllocError, Global};
 use std::mem;
@@ -39,11 +41,16 @@ impl Screens {
         requires least_cols { FEWEST_COLS ≤ cols }
         requires most_cols { cols ≤ MOST_COLS }
     {
-        let (Ok(before), Ok(last)) = (Grid::new(alloc, rows, cols), Grid::new(alloc, rows, cols))
-        else {
+        let Ok(before) = Grid::new(alloc, rows, cols) else {
             return Err(AllocError);
         };
-        Ok(Screens { before, last })
+        match Grid::new(alloc, rows, cols) {
+            Ok(last) => Ok(Screens { before, last }),
+            Err(OutOfMemory) => {
+                drop(before);
+                Err(AllocError)
+            }
+        }
     }
 
     /// Takes a blank grid of this size behind the last one.
@@ -53,9 +60,14 @@ impl Screens {
         requires least_cols { FEWEST_COLS ≤ cols }
         requires most_cols { cols ≤ MOST_COLS }
     {
-        let grid = Grid::new(alloc, rows, cols).ok()?;
-        self.before = mem::replace(&mut self.last, grid);
-        Some(())
+        match Grid::new(alloc, rows, cols) {
+            Ok(grid) => {
+                let last = mem::replace(&mut self.last, grid);
+                drop(mem::replace(&mut self.before, last));
+                Some(())
+            }
+            Err(OutOfMemory) => None,
+        }
     }
 }
 
@@ -96,9 +108,14 @@ pub fn draw_marked(
     if let Some(at) = marked {
         return draw(alloc, tree, &OneMark(at), code, view, grid);
     }
-    let decls = Decls::new(alloc, tree).ok()?;
-    let marks = marks_of(alloc, tree, &decls)?;
-    draw(alloc, tree, &marks, code, view, grid)
+    match marks_of(alloc, tree) {
+        Some(marks) => {
+            let drawn = draw(alloc, tree, &marks, code, view, grid);
+            drop(marks);
+            drawn
+        }
+        None => None,
+    }
 }
 
 /// Draws the view of a case on a grid under these marks; code is shown where there are rows of it.
@@ -114,17 +131,64 @@ fn draw<M: Marked>(
     ensures rows { grid.new.rows ≡ grid.old.rows }
     ensures cols { grid.new.cols ≡ grid.old.cols }
 {
-    let layout = Layout::new(alloc, tree).ok()?;
-    let Ok(mut lines) = LineCache::new(alloc) else {
-        return None;
-    };
+    match Layout::new(alloc, tree) {
+        Ok(layout) => {
+            let drawn = draw_laid(alloc, tree, &layout, marks, code, view, grid);
+            drop(layout);
+            drawn
+        }
+        Err(OutOfMemory) => None,
+    }
+}
+
+/// Draws the view of a case on a grid under these marks, where this is the layout of the program.
+fn draw_laid<M: Marked>(
+    alloc: Global,
+    tree: &Tree,
+    layout: &Layout<Counts>,
+    marks: &M,
+    code: &[Vec<u8>],
+    view: &ViewWords<'_>,
+    grid: &mut Grid,
+) -> Option<Counts>
+    requires tree { IsTree tree.now }
+    requires agrees { IsLayoutOf layout.now tree.now }
+    ensures rows { grid.new.rows ≡ grid.old.rows }
+    ensures cols { grid.new.cols ≡ grid.old.cols }
+{
+    match LineCache::new(alloc) {
+        Ok(mut lines) => {
+            let work = draw_lines(tree, layout, marks, code, view, grid, &mut lines);
+            drop(lines);
+            Some(work)
+        }
+        Err(OutOfMemory) => None,
+    }
+}
+
+/// Draws the view of a case on a grid under these marks, where the lines are kept of which it is made.
+fn draw_lines<M: Marked>(
+    tree: &Tree,
+    layout: &Layout<Counts>,
+    marks: &M,
+    code: &[Vec<u8>],
+    view: &ViewWords<'_>,
+    grid: &mut Grid,
+    lines: &mut LineCache<Counts>,
+) -> Counts
+    requires tree { IsTree tree.now }
+    requires agrees { IsLayoutOf layout.now tree.now }
+    requires held { HoldLinesOf (M.marks marks.now) (roomless tree.now.items) lines.old }
+    ensures rows { grid.new.rows ≡ grid.old.rows }
+    ensures cols { grid.new.cols ≡ grid.old.cols }
+{
     let stop = Stop {
         path: path_to(tree, view.slot),
         part: view.part,
     };
     let view = View {
         tree,
-        layout: &layout,
+        layout,
         marks,
         stop: &stop,
         top: view.top.min(1_000_000),
@@ -138,8 +202,8 @@ fn draw<M: Marked>(
     // That a grid is within its bounds is known once it is asked for its rows.
     let _ = grid.rows();
     let mut work = Counts::default();
-    compose(grid, &mut lines, &view, &mut work);
-    Some(work)
+    compose(grid, lines, &view, &mut work);
+    work
 }
 
 /// Tells the rows of the grid that aren't blank, and the place of its cursor.
@@ -162,9 +226,15 @@ pub fn paint_grid(
     if old.rows() != new.rows() || old.cols() != new.cols() {
         return None;
     }
-    let mut sink = MemSink::new(alloc, numbers_of(alloc, words)?);
-    told.value(&paint(old, new, &mut sink));
-    told.put(b' ');
-    told.word(sink.bytes());
-    Some(())
+    match numbers_of(alloc, words) {
+        Some(fails) => {
+            let mut sink = MemSink::new(alloc, fails);
+            told.value(&paint(old, new, &mut sink));
+            told.put(b' ');
+            told.word(sink.bytes());
+            drop(sink);
+            Some(())
+        }
+        None => None,
+    }
 }

@@ -17,6 +17,7 @@ pub fn sums(alloc: Global, words: &[Vec<u8>], told: &mut Told) -> Option<()> {
     let edited = pair.edit(edits) && pair.agree(step);
     told.text("the same sums: ");
     told.value(&(filled && edited));
+    drop(pair);
     Some(())
 }
 

@@ -1,9 +1,11 @@
 //! What a terminal makes of bytes.
-ghost use Rattle.std.specs.Prelude.{◌≡◌};
+ghost use Rattle.std.specs.Prelude.{◌≡◌, ◌≤◌};
+ghost use Rattle.screen_window.specs.declared.limit.TheConstants.{FEWEST_COLS, FEWEST_ROWS, MOST_COLS, MOST_ROWS};
 
 use crate::cells::tell_row;
 use crate::words::size_at;
 use case_script::Told;
+use plcs_base::OutOfMemory;
 use screen_window::Terminal;
 use std::alloc::Global;
 
@@ -11,11 +13,41 @@ use std::alloc::Global;
 /// tells what both show.
 pub fn terminal(alloc: Global, words: &[Vec<u8>], told: &mut Told) -> Option<()> {
     let (rows, cols) = size_at(words)?;
-    let mut whole = Terminal::new(alloc, rows, cols).ok()?;
-    let mut parted = Terminal::new(alloc, rows, cols).ok()?;
-    take_all(&mut whole, &mut parted, words);
-    tell_terminals(rows, &whole, &parted, told);
-    Some(())
+    match Terminal::new(alloc, rows, cols) {
+        Ok(mut whole) => {
+            let done = take_beside(alloc, rows, cols, &mut whole, words, told);
+            drop(whole);
+            done
+        }
+        Err(OutOfMemory) => None,
+    }
+}
+
+/// Has the terminal of this size take the words behind its size, each whole, and a new one the same byte by byte, and
+/// tells what both show.
+fn take_beside(
+    alloc: Global,
+    rows: u16,
+    cols: u16,
+    whole: &mut Terminal,
+    words: &[Vec<u8>],
+    told: &mut Told,
+) -> Option<()>
+    requires least_rows { FEWEST_ROWS ≤ rows }
+    requires most_rows { rows ≤ MOST_ROWS }
+    requires least_cols { FEWEST_COLS ≤ cols }
+    requires most_cols { cols ≤ MOST_COLS }
+    requires whole { whole.old.rows ≡ rows }
+{
+    match Terminal::new(alloc, rows, cols) {
+        Ok(mut parted) => {
+            take_all(whole, &mut parted, words);
+            tell_terminals(rows, whole, &parted, told);
+            drop(parted);
+            Some(())
+        }
+        Err(OutOfMemory) => None,
+    }
 }
 
 /// Has the one terminal take the words behind its size, each whole, and the other the same byte by byte.
