@@ -18,8 +18,14 @@ pub(crate) fn code_of(alloc: Global, tree: &Tree) -> Option<FlatCode<Counts>>
     requires { IsTree tree.now }
     ensures { IfSome result (IsTreesCode tree.now) }
 {
-    let decls = Decls::new(alloc, tree).ok()?;
-    code_by(alloc, tree, &decls)
+    match Decls::new(alloc, tree) {
+        Ok(decls) => {
+            let code = code_by(alloc, tree, &decls);
+            drop(decls);
+            code
+        }
+        Err(_) => None,
+    }
 }
 
 /// The code of the program, made anew, whose table of declarations this is.
@@ -29,7 +35,11 @@ fn code_by(alloc: Global, tree: &Tree, decls: &Decls) -> Option<FlatCode<Counts>
     ensures { IfSome result (IsTreesCode tree.now) }
 {
     match Marks::new(alloc, tree, decls, &mut Counts::default()) {
-        Ok(marks) => code_under(alloc, tree, &marks, decls),
+        Ok(marks) => {
+            let code = code_under(alloc, tree, &marks, decls);
+            drop(marks);
+            code
+        }
         Err(_) => None,
     }
 }

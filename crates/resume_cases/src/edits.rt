@@ -1,11 +1,14 @@
 //! Changes of a bench's program, of which its run keeps before what resumption asks for.
 ghost use Rattle.std.specs.Prelude.{◌≡◌, IfErr, IfNone, IfSome, IsSome, None, Some};
 ghost use Rattle.clip_store.specs.ClipLimit.{IsClip};
-ghost use Rattle.clip_store.specs.PlainFragment.{plain_fragment};
-ghost use Rattle.plcs_grammar.specs.PlainPhrase.{plain_phrase};
+ghost use Rattle.clip_store.specs.PlainFragment.{IsFragment, plain_fragment};
+ghost use Rattle.decl_table.specs.Agreement.{IsDeclsOf};
+ghost use Rattle.plcs_grammar.specs.Canon.{IsWellFormed};
+ghost use Rattle.plcs_grammar.specs.PlainPhrase.{category_of, plain_phrase};
 ghost use Rattle.template_tree.specs.Positions.Stop.{IsStop, plain_stop};
 ghost use Rattle.template_tree.specs.Programs.Part.{IsPhrasePlace};
 ghost use Rattle.template_tree.specs.Programs.PlainTree.{roomless_tree};
+ghost use Rattle.template_tree.specs.Programs.Program.{IsSubtree};
 ghost use Rattle.template_tree.specs.Programs.Tree.{IsTree};
 ghost use Rattle.tree_steps.specs.EditStep.{CameByEdits};
 ghost use Rattle.session_edit.specs.PlainEdit.{BringsWhatMayStand};
@@ -23,8 +26,9 @@ use plcs_base::Name;
 use plcs_grammar::{Category, Phrase, Template, shown_len};
 use session_edit::{Edit, apply, edits_at_stops_are_steps, wanted};
 use std::alloc::Global;
+use std::mem;
 use suspend_state::Suspending;
-use template_tree::{Change, LONGEST_PHRASE, Path, Stop, Tree, TreeFault};
+use template_tree::{Change, LONGEST_PHRASE, Node, Path, Stop, Tree, TreeFault};
 use tree_steps::edits_follow;
 
 /// What came of a change of a program.
@@ -87,11 +91,34 @@ fn change(alloc: Global, bench: &mut Bench, clips: &mut Clips, words: &[Vec<u8>]
     let [at, word, rest @ ..] = words else {
         return None;
     };
-    let at = stop_of(&bench.tree, at.as_slice())?;
-    match (meaning(&EDIT_WORDS, word.as_slice())?, rest) {
-        (EditWord::Copy, []) => copy(alloc, &bench.tree, clips, &at),
-        (EditWord::Elide, []) => elide(alloc, bench, &at),
-        (word, rest) => edit_at(alloc, bench, clips, &at, word, rest),
+    let word = meaning(&EDIT_WORDS, word.as_slice())?;
+    match stop_of(&bench.tree, at.as_slice()) {
+        Some(at) => {
+            let made = change_at(alloc, bench, clips, &at, word, rest);
+            drop(at);
+            made
+        }
+        None => None,
+    }
+}
+
+/// Changes the program of the bench at the stop as the word says, and the words after it.
+fn change_at(
+    alloc: Global,
+    bench: &mut Bench,
+    clips: &mut Clips,
+    at: &Stop,
+    word: EditWord,
+    rest: &[Vec<u8>],
+) -> Option<Made>
+    requires bench { IsBench bench.old }
+    requires stop { IsStop (roomless_tree bench.old.tree).items (plain_stop at.now) }
+    ensures { IsBench bench.new }
+{
+    match (word, rest) {
+        (EditWord::Copy, []) => copy(alloc, &bench.tree, clips, at),
+        (EditWord::Elide, []) => elide(alloc, bench, at),
+        (word, rest) => edit_at(alloc, bench, clips, at, word, rest),
     }
 }
 
@@ -99,10 +126,38 @@ fn change(alloc: Global, bench: &mut Bench, clips: &mut Clips, words: &[Vec<u8>]
 fn copy(alloc: Global, tree: &Tree, clips: &mut Clips, at: &Stop) -> Option<Made>
     requires { IsTree tree.now }
 {
-    let copy = tree.copy_node(alloc, &at.path).ok()?;
-    match clips.put(clip_name()?, Fragment::Node(copy)) {
-        Ok(_) => Some(Made::NoEdit),
+    match tree.copy_node(alloc, &at.path) {
+        Ok(copy) => keep_copy(clips, copy),
         Err(_) => None,
+    }
+}
+
+/// Holds the node, which was copied for a change of the bench's program.
+fn keep_copy(clips: &mut Clips, copy: Node) -> Option<Made>
+    requires { IsSubtree copy }
+{
+    match clip_name() {
+        Some(name) => put_copy(clips, name, copy),
+        None => {
+            drop(copy);
+            None
+        }
+    }
+}
+
+/// Holds the node, which was copied for a change of the bench's program, under the name.
+fn put_copy(clips: &mut Clips, name: Name, copy: Node) -> Option<Made>
+    requires { IsSubtree copy }
+{
+    match clips.put(name, Fragment::Node(copy)) {
+        Ok(before) => {
+            drop(before);
+            Some(Made::NoEdit)
+        }
+        Err(refused) => {
+            drop(refused);
+            None
+        }
     }
 }
 
@@ -158,24 +213,78 @@ fn edit_at(
     requires stop { IsStop (roomless_tree bench.old.tree).items (plain_stop at.now) }
     ensures { IsBench bench.new }
 {
-    let edit = match (word, rest) {
-        (EditWord::Fill, [template]) => Edit::Fill(Template::read(template.as_slice())?),
-        (EditWord::Enter, [text]) => {
-            let Some(category) = wanted(&bench.tree, at) else {
-                return Some(Made::Refused(TreeFault::NotHere));
-            };
-            Edit::Enter(phrase(alloc, category, text.as_slice())?)
-        }
-        (EditWord::Insert, []) => Edit::Insert(clips.get(&clip_name()?)?.copy(alloc).ok()?),
-        (EditWord::Delete, []) => Edit::Delete,
-        (EditWord::Take, []) => Edit::Take,
-        (EditWord::Beside(side), []) => Edit::Beside(side),
-        _ => return None,
+    match (word, rest) {
+        (EditWord::Enter, [text]) => enter(alloc, bench, at, text.as_slice()),
+        (EditWord::Insert, []) => insert(alloc, bench, clips, at),
+        (word, rest) => match plain_edit(word, rest) {
+            Some(edit) => make(alloc, bench, at, edit),
+            None => None,
+        },
+    }
+}
+
+/// The edit of a bench's program that the words say, if it is one that brings neither a phrase nor a node.
+fn plain_edit(word: EditWord, rest: &[Vec<u8>]) -> Option<Edit>
+    ensures { IfSome result BringsWhatMayStand }
+{
+    match (word, rest) {
+        (EditWord::Fill, [template]) => Some(Edit::Fill(Template::read(template.as_slice())?)),
+        (EditWord::Delete, []) => Some(Edit::Delete),
+        (EditWord::Take, []) => Some(Edit::Take),
+        (EditWord::Beside(side), []) => Some(Edit::Beside(side)),
+        _ => None,
+    }
+}
+
+/// Enters what the text is in a bench's program, at the stop.
+fn enter(alloc: Global, bench: &mut Bench, at: &Stop, text: &[u8]) -> Option<Made>
+    requires bench { IsBench bench.old }
+    requires stop { IsStop (roomless_tree bench.old.tree).items (plain_stop at.now) }
+    ensures { IsBench bench.new }
+{
+    let Some(category) = wanted(&bench.tree, at) else {
+        return Some(Made::Refused(TreeFault::NotHere));
     };
-    Some(match make(alloc, bench, at, edit)? {
-        Ok(change) => Made::Edited(change),
-        Err(fault) => Made::Refused(fault),
-    })
+    match phrase(alloc, category, text) {
+        Some(phrase) => make(alloc, bench, at, Edit::Enter(phrase)),
+        None => None,
+    }
+}
+
+/// Inserts the node that was copied last in a bench's program, at the stop.
+fn insert(alloc: Global, bench: &mut Bench, clips: &Clips, at: &Stop) -> Option<Made>
+    requires bench { IsBench bench.old }
+    requires stop { IsStop (roomless_tree bench.old.tree).items (plain_stop at.now) }
+    ensures { IsBench bench.new }
+{
+    match copied(alloc, clips) {
+        Some(fragment) => make(alloc, bench, at, Edit::Insert(fragment)),
+        None => None,
+    }
+}
+
+/// A copy of the node that was copied last for a change of the bench's program.
+fn copied(alloc: Global, clips: &Clips) -> Option<Fragment>
+    ensures { IfSome result (λ fragment. IsFragment (plain_fragment fragment)) }
+{
+    match clip_name() {
+        Some(name) => {
+            let copy = copy_of(alloc, clips, &name);
+            drop(name);
+            copy
+        }
+        None => None,
+    }
+}
+
+/// A copy of what is held under the name for changes of the bench's program.
+fn copy_of(alloc: Global, clips: &Clips, name: &Name) -> Option<Fragment>
+    ensures { IfSome result (λ fragment. IsFragment (plain_fragment fragment)) }
+{
+    match clips.get(name)?.copy(alloc) {
+        Ok(copy) => Some(copy),
+        Err(_) => None,
+    }
 }
 
 /// The phrase that a change of a bench's program enters at a stop: what the text is in the category, if it may
@@ -186,15 +295,39 @@ fn phrase(alloc: Global, category: Category, text: &[u8]) -> Option<Phrase>
     if text.len() > 1000 {
         return None;
     }
-    let phrase = parse(alloc, category, text).ok()?;
+    match parse(alloc, category, text) {
+        Ok(phrase) => short_phrase(phrase),
+        Err(_) => None,
+    }
+}
+
+/// The phrase that a change of a bench's program enters at a stop, unless it is too long to stand in a part.
+fn short_phrase(phrase: Phrase) -> Option<Phrase>
+    requires { IsWellFormed (category_of (plain_phrase phrase)) (plain_phrase phrase) }
+    ensures { IfSome result (λ phrase. IsPhrasePlace (Some (plain_phrase phrase))) }
+{
     if shown_len(&phrase) > LONGEST_PHRASE {
+        drop(phrase);
         return None;
     }
     Some(phrase)
 }
 
+/// Makes the edit of a bench's program at the stop, and says what came of it, or gives `None` where memory runs out.
+fn make(alloc: Global, bench: &mut Bench, at: &Stop, edit: Edit) -> Option<Made>
+    requires bench { IsBench bench.old }
+    requires stop { IsStop (roomless_tree bench.old.tree).items (plain_stop at.now) }
+    requires edit { BringsWhatMayStand edit }
+    ensures { IsBench bench.new }
+{
+    match make_in(alloc, bench, at, edit)? {
+        Ok(change) => Some(Made::Edited(change)),
+        Err(fault) => Some(Made::Refused(fault)),
+    }
+}
+
 /// Makes the edit at the stop, of which the run keeps before what it needs, or gives `None` where memory runs out.
-fn make(
+fn make_in(
     alloc: Global,
     bench: &mut Bench,
     at: &Stop,
@@ -250,15 +383,20 @@ fn make_first(
     ensures stands { SuspendedIn tree.new suspended.new }
 {
     edits_follow();
-    keep_program(alloc, tree, suspended)?;
-    match make_alone(alloc, tree, at, edit) {
-        Ok(change) => {
-            suspended.history.clear();
-            Some(Ok(change))
-        }
-        Err(fault) => {
-            suspended.run.kept = None;
-            Some(Err(fault))
+    match keep_program(alloc, tree, suspended) {
+        Some(()) => match make_alone(alloc, tree, at, edit) {
+            Ok(change) => {
+                suspended.history.clear();
+                Some(Ok(change))
+            }
+            Err(fault) => {
+                drop(mem::replace(&mut suspended.run.kept, None));
+                Some(Err(fault))
+            }
+        },
+        None => {
+            drop(edit);
+            None
         }
     }
 }
@@ -280,13 +418,18 @@ fn make_again(
     ensures stands { SuspendedIn tree.new suspended.new }
 {
     edits_follow();
-    keep_program(alloc, tree, suspended)?;
-    match make_alone(alloc, tree, at, edit) {
-        Ok(change) => {
-            suspended.history.clear();
-            Some(Ok(change))
+    match keep_program(alloc, tree, suspended) {
+        Some(()) => match make_alone(alloc, tree, at, edit) {
+            Ok(change) => {
+                suspended.history.clear();
+                Some(Ok(change))
+            }
+            Err(fault) => Some(Err(fault)),
+        },
+        None => {
+            drop(edit);
+            None
         }
-        Err(fault) => Some(Err(fault)),
     }
 }
 
@@ -298,8 +441,27 @@ fn keep_program(alloc: Global, tree: &Tree, suspended: &mut Suspended) -> Option
     ensures same { IfSome result (λ _. KeepsSuspended suspended.old suspended.new) }
     ensures refused { IfNone result (suspended.new ≡ suspended.old) }
 {
-    let decls = Decls::new(alloc, tree).ok()?;
-    match suspended.run.keep(alloc, tree, &decls) {
+    match Decls::new(alloc, tree) {
+        Ok(decls) => {
+            let kept = keep_by(alloc, tree, &decls, suspended);
+            drop(decls);
+            kept
+        }
+        Err(_) => None,
+    }
+}
+
+/// Keeps what the run needs of the program, whose table of declarations this is, before the program is changed, or
+/// gives `None` where memory runs out.
+fn keep_by(alloc: Global, tree: &Tree, decls: &Decls, suspended: &mut Suspended) -> Option<()>
+    requires tree { IsTree tree.now }
+    requires decls { IsDeclsOf decls.now tree.now.items }
+    requires stands { SuspendedIn tree.now suspended.old }
+    ensures kept { IfSome result (λ _. HasKept tree.now suspended.new.run) }
+    ensures same { IfSome result (λ _. KeepsSuspended suspended.old suspended.new) }
+    ensures refused { IfNone result (suspended.new ≡ suspended.old) }
+{
+    match suspended.run.keep(alloc, tree, decls) {
         Ok(()) => Some(()),
         Err(_) => None,
     }
@@ -317,7 +479,11 @@ fn make_alone(alloc: Global, tree: &mut Tree, at: &Stop, edit: Edit) -> Result<C
 {
     edits_at_stops_are_steps();
     match apply(alloc, tree, at, edit) {
-        Ok(applied) => Ok(applied.receipt.change()),
+        Ok(applied) => {
+            let change = applied.receipt.change();
+            drop(applied);
+            Ok(change)
+        }
         Err(fault) => Err(fault),
     }
 }

@@ -28,17 +28,31 @@ impl Held {
     pub(crate) fn new(alloc: Global) -> Option<Held>
         ensures { IfSome result (λ held. IsBench held.bench) }
     {
-        let clips = Clips::new(alloc).ok()?;
-        let tree = Tree::new(alloc).ok()?;
-        Some(Held {
-            bench: Bench {
-                tree,
-                suspended: None,
-            },
-            scene: Scene::new(alloc),
-            clips,
-            input: Vec::new(alloc),
-            text: Vec::new(alloc),
-        })
+        match Clips::new(alloc) {
+            Ok(clips) => Held::of(alloc, clips),
+            Err(_) => None,
+        }
+    }
+
+    /// What is held before the first case on suspended runs, with these clips.
+    fn of(alloc: Global, clips: Clips) -> Option<Held>
+        ensures { IfSome result (λ held. IsBench held.bench) }
+    {
+        match Tree::new(alloc) {
+            Ok(tree) => Some(Held {
+                bench: Bench {
+                    tree,
+                    suspended: None,
+                },
+                scene: Scene::new(alloc),
+                clips,
+                input: Vec::new(alloc),
+                text: Vec::new(alloc),
+            }),
+            Err(_) => {
+                drop(clips);
+                None
+            }
+        }
     }
 }

@@ -24,29 +24,70 @@ use bench::Bench;
 use call::{CALLS, Call};
 use case_script::{Told, meaning, print_told, words_of};
 use held::Held;
-use std::io;
+use std::alloc::Global;
 use std::io::{BufRead, BufReader, ErrorKind};
+use std::{io, mem};
 
 fn main(rt: HostRuntime) -> io::Result<()> {
-    let Some(mut held) = Held::new(rt.alloc()) else {
-        return Err(io::Error::from(ErrorKind::OutOfMemory));
-    };
-    play_script(&rt, &mut held)
+    match Held::new(rt.alloc()) {
+        Some(mut held) => {
+            let played = play_script(&rt, &mut held);
+            drop(held);
+            played
+        }
+        None => Err(io::Error::from(ErrorKind::OutOfMemory)),
+    }
 }
 
 /// Plays the script of cases on suspended runs that standard input has.
 fn play_script(rt: &HostRuntime, held: &mut Held) -> io::Result<()>
     requires { IsBench held.old.bench }
 {
+    let mut told = Told::new(rt.alloc());
+    let played = play_lines(rt, held, &mut told);
+    drop(told);
+    played
+}
+
+/// Plays the lines of the script on suspended runs that standard input has.
+fn play_lines(rt: &HostRuntime, held: &mut Held, told: &mut Told) -> io::Result<()>
+    requires { IsBench held.old.bench }
+{
     let alloc = rt.alloc();
-    let mut told = Told::new(alloc);
     for line in BufReader::new(alloc, rt.reader())?.lines(alloc) {
-        let line = line?;
-        println!(rt; "{line}")?;
-        play_line(held, line.as_bytes(), &mut told)?;
-        print_told(rt, &told)?;
+        play_read(rt, held, line, told)?;
     }
     Ok(())
+}
+
+/// Plays a line of the script on suspended runs, once it was read.
+fn play_read(
+    rt: &HostRuntime,
+    held: &mut Held,
+    line: io::Result<String>,
+    told: &mut Told,
+) -> io::Result<()>
+    requires { IsBench held.old.bench }
+    ensures { IsBench held.new.bench }
+{
+    match line {
+        Ok(line) => {
+            let played = play_shown(rt, held, line.as_str(), told);
+            drop(line);
+            played
+        }
+        Err(error) => Err(error),
+    }
+}
+
+/// Prints a line of the script on suspended runs, plays it, and prints what is told.
+fn play_shown(rt: &HostRuntime, held: &mut Held, line: &str, told: &mut Told) -> io::Result<()>
+    requires { IsBench held.old.bench }
+    ensures { IsBench held.new.bench }
+{
+    println!(rt; "{line}")?;
+    play_line(held, line.as_bytes(), told)?;
+    print_told(rt, told)
 }
 
 /// Plays a line of the script on suspended runs: a heading, a line of text, or a case, whose answer is told.
@@ -56,17 +97,31 @@ fn play_line(held: &mut Held, line: &[u8], told: &mut Told) -> io::Result<()>
 {
     told.clear();
     match line {
-        [] | [b'#', ..] => {}
-        [b'|', b' ', text @ ..] => held.text.push(text.to_vec(told.alloc())?)?,
+        [] | [b'#', ..] => Ok(()),
+        [b'|', b' ', text @ ..] => keep_text(&mut held.text, told.alloc(), text),
         case => {
-            if play_case(held, case, told).is_none() {
-                told.clear();
-                told.line("NOT A CASE");
-            }
-            held.text.clear();
+            answer_case(held, case, told);
+            Ok(())
         }
     }
+}
+
+/// Keeps a line of text for the next case on suspended runs.
+fn keep_text(lines: &mut Vec<Vec<u8>>, alloc: Global, line: &[u8]) -> io::Result<()> {
+    lines.push(line.to_vec(alloc)?)?;
     Ok(())
+}
+
+/// Plays a case on suspended runs, or tells that it isn't one, and lets go of the lines of text before it.
+fn answer_case(held: &mut Held, case: &[u8], told: &mut Told)
+    requires { IsBench held.old.bench }
+    ensures { IsBench held.new.bench }
+{
+    if play_case(held, case, told).is_none() {
+        told.clear();
+        told.line("NOT A CASE");
+    }
+    held.text.clear();
 }
 
 /// Plays a case on suspended runs, if it is one.
@@ -75,7 +130,11 @@ fn play_case(held: &mut Held, case: &[u8], told: &mut Told) -> Option<()>
     ensures { IsBench held.new.bench }
 {
     match words_of(told.alloc(), case) {
-        Ok(Some(words)) => play_words(held, words.as_slice(), told),
+        Ok(Some(words)) => {
+            let played = play_words(held, words.as_slice(), told);
+            drop(words);
+            played
+        }
         _ => None,
     }
 }
@@ -133,8 +192,13 @@ fn keep_input(held: &mut Held, input: &[u8], told: &mut Told) -> Option<()>
     requires { IsBench held.old.bench }
     ensures { IsBench held.new.bench }
 {
-    held.input = input.to_vec(told.alloc()).ok()?;
-    told.value(&held.input.len());
-    told.line(" bytes");
-    Some(())
+    match input.to_vec(told.alloc()) {
+        Ok(input) => {
+            drop(mem::replace(&mut held.input, input));
+            told.value(&held.input.len());
+            told.line(" bytes");
+            Some(())
+        }
+        Err(_) => None,
+    }
 }

@@ -6,6 +6,7 @@ use crate::bench::Bench;
 use case_script::Told;
 use file_store::read_listing;
 use std::alloc::{AllocError, Global};
+use std::mem;
 use template_tree::Tree;
 
 /// Makes the program of the bench a new one, of which no run stands, and tells its slots.
@@ -13,10 +14,14 @@ pub(crate) fn begin(bench: &mut Bench, told: &mut Told) -> Option<()>
     requires { IsBench bench.old }
     ensures { IsBench bench.new }
 {
-    let tree = Tree::new(told.alloc()).ok()?;
-    take(bench, tree);
-    tell_slots(bench, told);
-    Some(())
+    match Tree::new(told.alloc()) {
+        Ok(tree) => {
+            take(bench, tree);
+            tell_slots(bench, told);
+            Some(())
+        }
+        Err(_) => None,
+    }
 }
 
 /// Reads the lines of text as the program of the bench, and tells its slots, or why it isn't one.
@@ -24,11 +29,24 @@ pub(crate) fn read(bench: &mut Bench, text: &[Vec<u8>], told: &mut Told) -> Opti
     requires { IsBench bench.old }
     ensures { IsBench bench.new }
 {
-    let listing = listing_of(told.alloc(), text).ok()?;
-    if let Some(()) = take_listing(bench, listing.as_slice(), told) {
+    match listing_of(told.alloc(), text) {
+        Ok(listing) => {
+            read_listed(bench, listing.as_slice(), told);
+            drop(listing);
+            Some(())
+        }
+        Err(_) => None,
+    }
+}
+
+/// Reads the listing as the program of the bench, and tells its slots, or why it isn't one.
+fn read_listed(bench: &mut Bench, listing: &[u8], told: &mut Told)
+    requires { IsBench bench.old }
+    ensures { IsBench bench.new }
+{
+    if let Some(()) = take_listing(bench, listing, told) {
         tell_slots(bench, told);
     }
-    Some(())
 }
 
 /// Makes the program of the bench that of the listing, of which no run stands, or tells why it isn't one.
@@ -53,8 +71,8 @@ fn take(bench: &mut Bench, tree: Tree)
     requires { IsTree tree }
     ensures { IsBench bench.new }
 {
-    bench.suspended = None;
-    bench.tree = tree;
+    drop(mem::replace(&mut bench.suspended, None));
+    drop(mem::replace(&mut bench.tree, tree));
 }
 
 /// Tells how many slots the program of the bench has, the new one or the one that was read.
@@ -68,9 +86,20 @@ fn tell_slots(bench: &Bench, told: &mut Told)
 /// The listing from which the program of a bench is read: the lines of text, each with its end.
 pub(crate) fn listing_of(alloc: Global, text: &[Vec<u8>]) -> Result<Vec<u8>, AllocError> {
     let mut listing = Vec::new(alloc);
+    match put_lines(&mut listing, text) {
+        Ok(()) => Ok(listing),
+        Err(AllocError) => {
+            drop(listing);
+            Err(AllocError)
+        }
+    }
+}
+
+/// Puts the lines of text, each with its end, at the end of a listing.
+fn put_lines(listing: &mut Vec<u8>, text: &[Vec<u8>]) -> Result<(), AllocError> {
     for line in text {
         listing.extend_from_slice(line.as_slice())?;
         listing.push(b'\n')?;
     }
-    Ok(listing)
+    Ok(())
 }

@@ -36,8 +36,14 @@ fn answer_of(alloc: Global, tree: &Tree, suspended: &Suspended) -> Option<Result
         IsResumeAnswer kept (plain_configuration suspended.now.run.state) tree.now.items (result_err answer))) }
 {
     kept_has_entries();
-    let decls = Decls::new(alloc, tree).ok()?;
-    Some(may_resume(&suspended.run, tree, &decls))
+    match Decls::new(alloc, tree) {
+        Ok(decls) => {
+            let answer = may_resume(&suspended.run, tree, &decls);
+            drop(decls);
+            Some(answer)
+        }
+        Err(_) => None,
+    }
 }
 
 /// Makes the bench's run ready to go on and tells where it does, or why it may not be resumed.

@@ -9,6 +9,7 @@ use crate::resumption::resume;
 use crate::steps::{run, step_most};
 use case_script::{Told, number_of};
 use std::alloc::Global;
+use std::mem;
 
 /// A program, and how many steps its run makes.
 #[derive(Drop)]
@@ -34,16 +35,13 @@ pub(crate) fn keep_scene(held: &mut Held, steps: &[u8], told: &mut Told) -> Opti
     ensures { IsBench held.new.bench }
 {
     let steps = number_of(steps)?;
-    let listing = listing_of(told.alloc(), held.text.as_slice()).ok()?;
-    held.scene = Scene { listing, steps };
-    let mut quiet = Told::new(told.alloc());
-    set(
-        &mut held.bench,
-        &held.scene,
-        held.input.as_slice(),
-        &mut quiet,
-        told,
-    )
+    match listing_of(told.alloc(), held.text.as_slice()) {
+        Ok(listing) => {
+            drop(mem::replace(&mut held.scene, Scene { listing, steps }));
+            set_quietly(held, told)
+        }
+        Err(_) => None,
+    }
 }
 
 /// Sets the scene, changes its program as the words say, and tells where its run goes on, or why it may not be
@@ -52,17 +50,29 @@ pub(crate) fn after(held: &mut Held, words: &[Vec<u8>], told: &mut Told) -> Opti
     requires { IsBench held.old.bench }
     ensures { IsBench held.new.bench }
 {
-    let mut quiet = Told::new(told.alloc());
     let mut stood = Told::new(told.alloc());
-    set(
+    let set = set_quietly(held, &mut stood);
+    drop(stood);
+    set?;
+    change_all(&mut held.bench, &mut held.clips, words, told)?;
+    resume(&mut held.bench, told)
+}
+
+/// Sets the scene that is held on the bench, and tells where its run stands then, and nothing else.
+fn set_quietly(held: &mut Held, told: &mut Told) -> Option<()>
+    requires { IsBench held.old.bench }
+    ensures { IsBench held.new.bench }
+{
+    let mut quiet = Told::new(told.alloc());
+    let set = set(
         &mut held.bench,
         &held.scene,
         held.input.as_slice(),
         &mut quiet,
-        &mut stood,
-    )?;
-    change_all(&mut held.bench, &mut held.clips, words, told)?;
-    resume(&mut held.bench, told)
+        told,
+    );
+    drop(quiet);
+    set
 }
 
 /// Sets the scene on the bench: reads its program, begins a run of it, and makes its steps, and tells where the run

@@ -1,5 +1,5 @@
 //! The run of a bench: how it is begun anew, its steps, made and taken back, and why it then stands still.
-ghost use Rattle.std.specs.Prelude.{◌≡◌, ◌≤◌, length, IfNone, IfSome, None};
+ghost use Rattle.std.specs.Prelude.{◌≡◌, ◌≤◌, [], length, IfNone, IfSome, None};
 ghost use Rattle.template_tree.specs.Programs.Tree.{IsTree};
 ghost use Rattle.plcs_store.specs.Configuration.{plain_configuration};
 ghost use Rattle.plcs_store.specs.Fits.{Fits};
@@ -16,6 +16,7 @@ use plcs_code::FlatCode;
 use plcs_machine::{StepAnswer, code_begins_as_tree, code_steps_as_tree, start, step};
 use plcs_store::{Reason, RunState, Undo, new_runs_fit, steps_keep_fit};
 use std::alloc::Global;
+use std::mem;
 use suspend_state::{RunReason, Suspending};
 use template_tree::Tree;
 
@@ -24,10 +25,14 @@ pub(crate) fn run(bench: &mut Bench, told: &mut Told) -> Option<()>
     requires { IsBench bench.old }
     ensures { IsBench bench.new }
 {
-    let suspended = begun(told.alloc(), &bench.tree)?;
-    tell_place(&suspended, told);
-    bench.suspended = Some(suspended);
-    Some(())
+    match begun(told.alloc(), &bench.tree) {
+        Some(suspended) => {
+            tell_place(&suspended, told);
+            drop(mem::replace(&mut bench.suspended, Some(suspended)));
+            Some(())
+        }
+        None => None,
+    }
 }
 
 /// The run of a bench begun anew by the code of its program: no step is made that could be taken back. `None`
@@ -36,12 +41,28 @@ fn begun(alloc: Global, tree: &Tree) -> Option<Suspended>
     requires { IsTree tree.now }
     ensures { IfSome result (SuspendedIn tree.now) }
 {
-    let history = History::new(alloc).ok()?;
-    let state = first_state(alloc, tree)?;
-    Some(Suspended {
-        run: Suspending::new(state),
-        history,
-    })
+    match History::new(alloc) {
+        Ok(history) => begun_with(alloc, tree, history),
+        Err(_) => None,
+    }
+}
+
+/// The run of a bench begun anew with this history, in which no step is noted. `None` where memory runs out.
+fn begun_with(alloc: Global, tree: &Tree, history: History) -> Option<Suspended>
+    requires tree { IsTree tree.now }
+    requires empty { history ≡ [] }
+    ensures { IfSome result (SuspendedIn tree.now) }
+{
+    match first_state(alloc, tree) {
+        Some(state) => Some(Suspended {
+            run: Suspending::new(state),
+            history,
+        }),
+        None => {
+            drop(history);
+            None
+        }
+    }
 }
 
 /// The state of the run of a bench that is begun anew, before its first step, or `None` where memory runs out.
@@ -50,10 +71,28 @@ fn first_state(alloc: Global, tree: &Tree) -> Option<RunState>
     ensures fits { IfSome result (λ state. Fits tree.now.items (plain_configuration state)) }
     ensures ready { IfSome result IsBetweenSteps }
 {
+    match code_of(alloc, tree) {
+        Some(code) => {
+            let state = first_state_by(alloc, tree, &code);
+            drop(code);
+            state
+        }
+        None => None,
+    }
+}
+
+/// The state of the run of a bench that is begun anew by the code of its program, before its first step, or `None`
+/// where memory runs out.
+fn first_state_by(alloc: Global, tree: &Tree, code: &FlatCode<Counts>) -> Option<RunState>
+    requires tree { IsTree tree.now }
+    requires code { IsTreesCode tree.now code.now }
+    ensures fits { IfSome result (λ state. Fits tree.now.items (plain_configuration state)) }
+    ensures ready { IfSome result IsBetweenSteps }
+{
+    let _ = tree;
     code_begins_as_tree();
     new_runs_fit();
-    let code = code_of(alloc, tree)?;
-    match start(alloc, &code, &mut Counts::default()) {
+    match start(alloc, code, &mut Counts::default()) {
         Ok(state) => Some(state),
         Err(_) => None,
     }
@@ -117,9 +156,35 @@ fn stepped(
     requires stands { SuspendedIn tree.now suspended.old }
     ensures { SuspendedIn tree.now suspended.new }
 {
-    let code = code_of(alloc, tree)?;
+    match code_of(alloc, tree) {
+        Some(code) => {
+            let made = stepped_by(alloc, tree, &code, input, suspended, most);
+            drop(code);
+            made
+        }
+        None => None,
+    }
+}
+
+/// Makes so many steps of the run at most, for which nothing is kept, by the code of its program. How many were made,
+/// or `None` where memory runs out.
+fn stepped_by(
+    alloc: Global,
+    tree: &Tree,
+    code: &FlatCode<Counts>,
+    input: &[u8],
+    suspended: &mut Suspended,
+    most: u32,
+) -> Option<u32>
+    requires tree { IsTree tree.now }
+    requires code { IsTreesCode tree.now code.now }
+    requires short { length input.now ≤ 4294967295 }
+    requires unedited { suspended.old.run.kept ≡ None }
+    requires stands { SuspendedIn tree.now suspended.old }
+    ensures { SuspendedIn tree.now suspended.new }
+{
     for made in 0..most {
-        if !is_stepped(alloc, tree, &code, input, suspended)? {
+        if !is_stepped(alloc, tree, code, input, suspended)? {
             return Some(made);
         }
     }
@@ -153,18 +218,24 @@ fn is_stepped(
         input,
         &mut suspended.run.state,
         &mut undo,
-    )? {
-        StepAnswer::Stepped => {
+    ) {
+        Some(StepAnswer::Stepped) => {
             suspended.history.note(undo);
             Some(true)
         }
-        StepAnswer::Stopped(reason) => {
+        Some(StepAnswer::Stopped(reason)) => {
+            drop(undo);
             suspended.run.set_reason(reason_of(reason));
             Some(false)
         }
-        StepAnswer::Ended => {
+        Some(StepAnswer::Ended) => {
+            drop(undo);
             suspended.run.set_reason(RunReason::Ended);
             Some(false)
+        }
+        None => {
+            drop(undo);
+            None
         }
     }
 }

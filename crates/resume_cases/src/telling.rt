@@ -5,7 +5,7 @@ use crate::bench::Bench;
 use crate::suspended::Suspended;
 use case_script::{Told, number_of};
 use plcs_base::{ByteOut, Name, Place, Value};
-use plcs_store::{Cell, Frame, KeptLoop};
+use plcs_store::{Cell, Frame, Frames, KeptLoop};
 
 /// Of a run that stands still, tells where it stands, in a line.
 pub(crate) fn tell_place(suspended: &Suspended, told: &mut Told) {
@@ -75,9 +75,20 @@ pub(crate) fn tell_cells(bench: &Bench, frame: &[u8], name: &[u8], told: &mut To
     let Some(suspended) = &bench.suspended else {
         return None;
     };
-    let name = Name::read(name)?;
-    let frames = &suspended.run.state.frames;
-    let variable = frames.variable(number_of(frame)? as usize, &name)?;
+    let number = number_of(frame)? as usize;
+    match Name::read(name) {
+        Some(name) => {
+            let there = tell_variable(&suspended.run.state.frames, number, &name, told);
+            drop(name);
+            there
+        }
+        None => None,
+    }
+}
+
+/// Tells what is in the cells of the variable of the name, in the frame of this number of a run that stands still.
+fn tell_variable(frames: &Frames, number: usize, name: &Name, told: &mut Told) -> Option<()> {
+    let variable = frames.variable(number, name)?;
     for cell in variable.cells.as_slice() {
         tell_cell(cell, told);
     }

@@ -1,6 +1,6 @@
 use Rattle.std.specs.Prelude.{refl}
 use Rattle.resume_cases.proofs.EditedRuns.{has_kept, keeps_state}
-use Rattle.resume_cases.proofs.edits.keep_program.Goals as goal
+use Rattle.resume_cases.proofs.edits.keep_by.Goals as goal
 
 pub returns-in-Ok-clause-kept : goal.returns-in-Ok-clause-kept
 returns-in-Ok-clause-kept c =
