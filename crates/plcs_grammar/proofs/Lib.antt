@@ -12,6 +12,10 @@ mod BuiltinNames
 mod ChainOperands
 -- plain forms that are equal part by part: `same_phrase`
 mod EqualPlainPhrases
+-- phrases of different categories, whose plain forms differ: `same_phrase`
+mod UnlikePhrases
+-- expressions of different variants, whose plain forms differ: `same_phrase`
+mod UnlikeExprs
 -- ---- bytes that are put in turn
 -- a text in parentheses behind a name: `show` of calls, subscripts and sizes
 mod ParenthesizedTexts

@@ -18,25 +18,62 @@ pub fn copy_phrase(alloc: Global, phrase: &Phrase) -> Result<Phrase, OutOfMemory
 {
     match phrase {
         Phrase::Assignment(target, value) => {
-            let target = copy_variable(alloc, target)?;
-            let value = copy_expr(alloc, value)?;
+            let Ok(target) = copy_variable(alloc, target) else {
+                return Err(OutOfMemory);
+            };
+            let Ok(value) = copy_expr(alloc, value) else {
+                drop(target);
+                return Err(OutOfMemory);
+            };
             Ok(Phrase::Assignment(target, value))
         }
-        Phrase::Condition(expr) => Ok(Phrase::Condition(copy_expr(alloc, expr)?)),
-        Phrase::Expression(expr) => Ok(Phrase::Expression(copy_expr(alloc, expr)?)),
-        Phrase::ExpressionList(exprs) => Ok(Phrase::ExpressionList(copy_exprs(alloc, exprs)?)),
-        Phrase::VariableList(targets) => Ok(Phrase::VariableList(copy_variables(alloc, targets)?)),
-        Phrase::Variable(name) => Ok(Phrase::Variable(copy_name(name)?)),
+        Phrase::Condition(expr) => match copy_expr(alloc, expr) {
+            Ok(copy) => Ok(Phrase::Condition(copy)),
+            Err(OutOfMemory) => Err(OutOfMemory),
+        },
+        Phrase::Expression(expr) => match copy_expr(alloc, expr) {
+            Ok(copy) => Ok(Phrase::Expression(copy)),
+            Err(OutOfMemory) => Err(OutOfMemory),
+        },
+        Phrase::ExpressionList(exprs) => match copy_exprs(alloc, exprs) {
+            Ok(copy) => Ok(Phrase::ExpressionList(copy)),
+            Err(OutOfMemory) => Err(OutOfMemory),
+        },
+        Phrase::VariableList(targets) => match copy_variables(alloc, targets) {
+            Ok(copy) => Ok(Phrase::VariableList(copy)),
+            Err(OutOfMemory) => Err(OutOfMemory),
+        },
+        Phrase::Variable(name) => match copy_name(name) {
+            Ok(copy) => Ok(Phrase::Variable(copy)),
+            Err(OutOfMemory) => Err(OutOfMemory),
+        },
         Phrase::CallRef(name, arguments) => {
-            let name = copy_name(name)?;
-            let arguments = copy_exprs(alloc, arguments)?;
+            let Ok(name) = copy_name(name) else {
+                return Err(OutOfMemory);
+            };
+            let Ok(arguments) = copy_exprs(alloc, arguments) else {
+                drop(name);
+                return Err(OutOfMemory);
+            };
             Ok(Phrase::CallRef(name, arguments))
         }
-        Phrase::DeclaredList(items) => Ok(Phrase::DeclaredList(copy_items(alloc, items)?)),
-        Phrase::ProcedureName(name) => Ok(Phrase::ProcedureName(copy_name(name)?)),
-        Phrase::NameList(names) => Ok(Phrase::NameList(copy_names(alloc, names)?)),
+        Phrase::DeclaredList(items) => match copy_items(alloc, items) {
+            Ok(copy) => Ok(Phrase::DeclaredList(copy)),
+            Err(OutOfMemory) => Err(OutOfMemory),
+        },
+        Phrase::ProcedureName(name) => match copy_name(name) {
+            Ok(copy) => Ok(Phrase::ProcedureName(copy)),
+            Err(OutOfMemory) => Err(OutOfMemory),
+        },
+        Phrase::NameList(names) => match copy_names(alloc, names) {
+            Ok(copy) => Ok(Phrase::NameList(copy)),
+            Err(OutOfMemory) => Err(OutOfMemory),
+        },
         Phrase::Length(length) => Ok(Phrase::Length(*length)),
-        Phrase::CommentText(text) => Ok(Phrase::CommentText(text.clone()?)),
+        Phrase::CommentText(text) => match text.clone() {
+            Ok(copy) => Ok(Phrase::CommentText(copy)),
+            Err(_) => Err(OutOfMemory),
+        },
     }
 }
 
@@ -46,7 +83,16 @@ fn copy_variables(alloc: Global, variables: &[VarRef]) -> Result<Vec<VarRef>, Ou
 {
     let mut copies = Vec::new(alloc);
     for variable in variables {
-        copies.push(copy_variable(alloc, variable)?)?;
+        let Ok(copy) = copy_variable(alloc, variable) else {
+            drop(copies);
+            return Err(OutOfMemory);
+        };
+        if let Err(_) = copies.reserve(1) {
+            drop(copies);
+            drop(copy);
+            return Err(OutOfMemory);
+        }
+        copies.push_reserved(copy);
     }
     Ok(copies)
 }
@@ -55,11 +101,13 @@ fn copy_variables(alloc: Global, variables: &[VarRef]) -> Result<Vec<VarRef>, Ou
 fn copy_item(item: &Item) -> Result<Item, OutOfMemory>
     ensures { IfOk result (λ copy. copy ≡ item.now) }
 {
-    let name = copy_name(&item.name)?;
-    Ok(Item {
-        name,
-        size: item.size,
-    })
+    match copy_name(&item.name) {
+        Ok(name) => Ok(Item {
+            name,
+            size: item.size,
+        }),
+        Err(OutOfMemory) => Err(OutOfMemory),
+    }
 }
 
 /// Copies of a phrase's declared items, in order.
@@ -68,7 +116,16 @@ fn copy_items(alloc: Global, items: &[Item]) -> Result<Vec<Item>, OutOfMemory>
 {
     let mut copies = Vec::new(alloc);
     for item in items {
-        copies.push(copy_item(item)?)?;
+        let Ok(copy) = copy_item(item) else {
+            drop(copies);
+            return Err(OutOfMemory);
+        };
+        if let Err(_) = copies.reserve(1) {
+            drop(copies);
+            drop(copy);
+            return Err(OutOfMemory);
+        }
+        copies.push_reserved(copy);
     }
     Ok(copies)
 }
@@ -79,7 +136,16 @@ fn copy_names(alloc: Global, names: &[Name]) -> Result<Vec<Name>, OutOfMemory>
 {
     let mut copies = Vec::new(alloc);
     for name in names {
-        copies.push(copy_name(name)?)?;
+        let Ok(copy) = copy_name(name) else {
+            drop(copies);
+            return Err(OutOfMemory);
+        };
+        if let Err(_) = copies.reserve(1) {
+            drop(copies);
+            drop(copy);
+            return Err(OutOfMemory);
+        }
+        copies.push_reserved(copy);
     }
     Ok(copies)
 }

@@ -18,30 +18,53 @@ pub(crate) fn copy_expr(alloc: Global, expr: &Expr) -> Result<Expr, OutOfMemory>
     loop {
         match at {
             Expr::Infix(op, left, right) => {
-                let right = copy_expr(alloc, right)?;
-                links.push(Link { op: *op, right })?;
+                let Ok(right) = copy_expr(alloc, right) else {
+                    drop(links);
+                    return Err(OutOfMemory);
+                };
+                if let Err(_) = links.reserve(1) {
+                    drop(links);
+                    drop(right);
+                    return Err(OutOfMemory);
+                }
+                links.push_reserved(Link { op: *op, right });
                 at = left;
             }
             Expr::Number(number) => return chained(alloc, Expr::Number(*number), links),
             Expr::Text(text) => {
-                let text = Box::new(alloc, copy_text(text)?)?;
+                let Ok(text) = copy_text(alloc, text) else {
+                    drop(links);
+                    return Err(OutOfMemory);
+                };
                 return chained(alloc, Expr::Text(text), links);
             }
             Expr::Bit(bit) => return chained(alloc, Expr::Bit(*bit), links),
             Expr::Var(variable) => {
-                let variable = copy_variable(alloc, variable)?;
+                let Ok(variable) = copy_variable(alloc, variable) else {
+                    drop(links);
+                    return Err(OutOfMemory);
+                };
                 return chained(alloc, Expr::Var(variable), links);
             }
             Expr::Prefix(op, operand) => {
-                let operand = Box::new(alloc, copy_expr(alloc, operand)?)?;
+                let Ok(operand) = copy_inside(alloc, operand) else {
+                    drop(links);
+                    return Err(OutOfMemory);
+                };
                 return chained(alloc, Expr::Prefix(*op, operand), links);
             }
             Expr::Builtin(function, arguments) => {
-                let arguments = copy_exprs(alloc, arguments)?;
+                let Ok(arguments) = copy_exprs(alloc, arguments) else {
+                    drop(links);
+                    return Err(OutOfMemory);
+                };
                 return chained(alloc, Expr::Builtin(*function, arguments), links);
             }
             Expr::Paren(inside) => {
-                let inside = Box::new(alloc, copy_expr(alloc, inside)?)?;
+                let Ok(inside) = copy_inside(alloc, inside) else {
+                    drop(links);
+                    return Err(OutOfMemory);
+                };
                 return chained(alloc, Expr::Paren(inside), links);
             }
         }
@@ -53,17 +76,33 @@ pub(crate) fn copy_expr(alloc: Global, expr: &Expr) -> Result<Expr, OutOfMemory>
 pub(crate) fn copy_variable(alloc: Global, variable: &VarRef) -> Result<VarRef, OutOfMemory>
     ensures { IfOk result (λ copy. plain_var_ref copy ≡ plain_var_ref variable.now) }
 {
-    let name = copy_name(&variable.name)?;
+    let Ok(name) = copy_name(&variable.name) else {
+        return Err(OutOfMemory);
+    };
     match &variable.index {
         None => Ok(VarRef { name, index: None }),
         Some(index) => {
-            let index = Box::new(alloc, copy_expr(alloc, index)?)?;
+            let Ok(index) = copy_inside(alloc, index) else {
+                drop(name);
+                return Err(OutOfMemory);
+            };
             Ok(VarRef {
                 name,
                 index: Some(index),
             })
         }
     }
+}
+
+/// A copy of an expression that stands inside another, in memory of its own.
+#[cycle(copy_expr)]
+fn copy_inside(alloc: Global, expr: &Expr) -> Result<Box<Expr>, OutOfMemory>
+    ensures { IfOk result (λ copy. plain_expr copy.value ≡ plain_expr expr.now) }
+{
+    let Ok(copy) = copy_expr(alloc, expr) else {
+        return Err(OutOfMemory);
+    };
+    Ok(Box::new(alloc, copy)?)
 }
 
 /// Copies of expressions, in order.
@@ -73,7 +112,16 @@ pub(crate) fn copy_exprs(alloc: Global, exprs: &[Expr]) -> Result<Vec<Expr>, Out
 {
     let mut copies = Vec::new(alloc);
     for expr in exprs {
-        copies.push(copy_expr(alloc, expr)?)?;
+        let Ok(copy) = copy_expr(alloc, expr) else {
+            drop(copies);
+            return Err(OutOfMemory);
+        };
+        if let Err(_) = copies.reserve(1) {
+            drop(copies);
+            drop(copy);
+            return Err(OutOfMemory);
+        }
+        copies.push_reserved(copy);
     }
     Ok(copies)
 }
@@ -82,14 +130,20 @@ pub(crate) fn copy_exprs(alloc: Global, exprs: &[Expr]) -> Result<Vec<Expr>, Out
 pub(crate) fn copy_name(name: &Name) -> Result<Name, OutOfMemory>
     ensures { IfOk result (λ copy. copy ≡ name.now) }
 {
-    Ok(name.clone()?)
+    match name.clone() {
+        Ok(copy) => Ok(copy),
+        Err(_) => Err(OutOfMemory),
+    }
 }
 
 /// A copy of a text, the value of a character constant in an expression.
-fn copy_text(text: &TextValue) -> Result<TextValue, OutOfMemory>
-    ensures { IfOk result (λ copy. copy ≡ text.now) }
+fn copy_text(alloc: Global, text: &TextValue) -> Result<Box<TextValue>, OutOfMemory>
+    ensures { IfOk result (λ copy. copy.value ≡ text.now) }
 {
-    Ok(text.clone()?)
+    let Ok(copy) = text.clone() else {
+        return Err(OutOfMemory);
+    };
+    Ok(Box::new(alloc, copy)?)
 }
 
 /// The copy of a chain of operators, made of its copied leftmost operand and operators, the last of them first.

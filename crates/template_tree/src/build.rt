@@ -60,9 +60,11 @@ impl Tree {
         ensures tree { IfOk result IsTree }
     {
         if !is_within_depth(items.as_slice(), DEEPEST_PATH as u32) {
+            drop(items);
             return Err(BuildLimit::TooDeep);
         }
         let Some(left) = slots_left(items.as_slice(), MOST_SLOTS) else {
+            drop(items);
             return Err(BuildLimit::TooLarge);
         };
         let homes = Homes::new(items.allocator());

@@ -37,8 +37,10 @@ impl Tree {
         if hole_left(node.kind).is_none() {
             return Err(TreeFault::NotHere);
         }
-        let copy = node.copy(alloc)?;
-        Ok(copy)
+        match node.copy(alloc) {
+            Ok(copy) => Ok(copy),
+            Err(OutOfMemory) => Err(TreeFault::OutOfMemory),
+        }
     }
 }
 
@@ -50,11 +52,19 @@ impl Node {
         ensures slots { IfOk result (λ copy. count copy.inner ≡ count self.now.inner) }
         ensures depth { IfOk result (λ copy. depth copy.inner ≡ depth self.now.inner) }
     {
-        let parts = copy_phrase_places(alloc, self.parts.as_slice())?;
+        let Ok(parts) = copy_phrase_places(alloc, self.parts.as_slice()) else {
+            return Err(OutOfMemory);
+        };
         let mut inner = Nodes::new(alloc);
         for node in self.inner.as_slice() {
-            let copy = node.copy(alloc)?;
-            if let Err(_) = inner.push(copy) {
+            let Ok(copy) = node.copy(alloc) else {
+                drop(inner);
+                drop(parts);
+                return Err(OutOfMemory);
+            };
+            if let Err(OutOfMemory) = inner.put_last(copy) {
+                drop(inner);
+                drop(parts);
                 return Err(OutOfMemory);
             }
         }
@@ -77,7 +87,16 @@ fn copy_phrase_places(
 {
     let mut copies = Vec::new(alloc);
     for place in places {
-        copies.push(copy_phrase_place(alloc, place)?)?;
+        let Ok(copy) = copy_phrase_place(alloc, place) else {
+            drop(copies);
+            return Err(OutOfMemory);
+        };
+        if let Err(_) = copies.reserve(1) {
+            drop(copies);
+            drop(copy);
+            return Err(OutOfMemory);
+        }
+        copies.push_reserved(copy);
     }
     Ok(copies)
 }
@@ -88,6 +107,9 @@ fn copy_phrase_place(alloc: Global, place: &PhrasePlace) -> Result<PhrasePlace, 
 {
     match place {
         PhrasePlace::Empty => Ok(PhrasePlace::Empty),
-        PhrasePlace::Filled(phrase) => Ok(PhrasePlace::Filled(copy_phrase(alloc, phrase)?)),
+        PhrasePlace::Filled(phrase) => match copy_phrase(alloc, phrase) {
+            Ok(copy) => Ok(PhrasePlace::Filled(copy)),
+            Err(OutOfMemory) => Err(OutOfMemory),
+        },
     }
 }

@@ -60,19 +60,6 @@ impl Tree {
         ensures put { self.new ≡ Put self.old result.0.label.slot node }
         ensures change { IsChangeOf self.new result.0.label.slot What.Node result.1 }
     {
-        let exchanged = self.exchange_nodes(path, node);
-        self.note(path);
-        exchanged
-    }
-
-    /// As `exchange`, but notes nothing.
-    fn exchange_nodes(&mut self, path: &Path, node: Node) -> (Node, Change)
-        requires tree { IsTree self.old }
-        requires fits { IsSomeAnd (node_at self.old.items path.now.items) (MayReplace self.old node) }
-        ensures old { node_at self.old.items path.now.items ≡ Some result.0 }
-        ensures put { self.new ≡ Put self.old result.0.label.slot node }
-        ensures change { IsChangeOf self.new result.0.label.slot What.Node result.1 }
-    {
         let (drawn, live) = (self.drawn, self.live);
         let procedure = self.procedure_at(path);
         let Some(there) = self.node_mut(path) else {
@@ -84,6 +71,7 @@ impl Tree {
         let old = mem::replace(there, new);
         self.drawn = next;
         self.live = live - old.slots() + 1 + (next - drawn);
+        self.note(path);
         (old, Change::of_node(slot, procedure))
     }
 

@@ -69,12 +69,19 @@ impl Node {
         ensures { IfOk result (λ node. roomless_node node ≡ fresh_node kind) }
     {
         let row = kind.row();
+        let Ok(parts) = empty_parts(alloc, row.line) else {
+            return Err(OutOfMemory);
+        };
+        let Ok(inner) = holes(alloc, row.sections) else {
+            drop(parts);
+            return Err(OutOfMemory);
+        };
         Ok(Node {
             slot: Slot(0),
             kind,
             elided: false,
-            parts: empty_parts(alloc, row.line)?,
-            inner: holes(alloc, row.sections)?,
+            parts,
+            inner,
         })
     }
 }
@@ -87,9 +94,11 @@ fn empty_parts(alloc: Global, line: &[Segment]) -> Result<Vec<PhrasePlace>, OutO
     let mut parts = Vec::new(alloc);
     for segment in line {
         if let Segment::Part(_) = segment {
-            if let Err(_) = parts.push(PhrasePlace::Empty) {
+            if let Err(_) = parts.reserve(1) {
+                drop(parts);
                 return Err(OutOfMemory);
             }
+            parts.push_reserved(PhrasePlace::Empty);
         }
     }
     Ok(parts)
@@ -100,8 +109,13 @@ fn holes(alloc: Global, sections: &[Section]) -> Result<Nodes, OutOfMemory>
     ensures { IfOk result (λ list. roomless (forest list.items) ≡ section_holes (map plain_section sections.now)) }
 {
     let mut list = Nodes::new(alloc);
-    push_holes(&mut list, alloc, sections)?;
-    Ok(list)
+    match push_holes(&mut list, alloc, sections) {
+        Ok(()) => Ok(list),
+        Err(OutOfMemory) => {
+            drop(list);
+            Err(OutOfMemory)
+        }
+    }
 }
 
 /// Puts a fresh node's hole for each of the sections at the end of its list.
@@ -112,7 +126,9 @@ fn push_holes(list: &mut Nodes, alloc: Global, sections: &[Section]) -> Result<(
     let Some((section, others)) = sections.split_first() else {
         return Ok(());
     };
-    push_hole(list, alloc, section)?;
+    if let Err(OutOfMemory) = push_hole(list, alloc, section) {
+        return Err(OutOfMemory);
+    }
     push_holes(list, alloc, others)
 }
 
@@ -124,10 +140,7 @@ fn push_hole(list: &mut Nodes, alloc: Global, section: &Section) -> Result<(), O
     let Some(kind) = hole_of(section.sort) else {
         return Ok(());
     };
-    if let Err(_) = list.push(Node::bare(alloc, Slot(0), kind)) {
-        return Err(OutOfMemory);
-    }
-    Ok(())
+    list.put_last(Node::bare(alloc, Slot(0), kind))
 }
 
 /// How many holes stand inside a fresh node with these sections, as far as the type goes.

@@ -17,7 +17,9 @@ impl Tree {
         if self.homes.has_room(self.live) {
             return Ok(());
         }
-        self.homes.grow(alloc, self.live)?;
+        if let Err(OutOfMemory) = self.homes.grow(alloc, self.live) {
+            return Err(OutOfMemory);
+        }
         self.enter_all();
         Ok(())
     }
@@ -59,15 +61,23 @@ impl Tree {
 
 /// The path that a node in the slot would have where it is said to stand, or near there.
 pub(crate) fn way_down(items: &[Node], homes: &Homes, slot: Slot) -> Option<Path> {
-    let way = homes.way_to(slot)?;
+    let Some(way) = homes.way_to(slot) else {
+        return None;
+    };
     let mut path = Path::new();
     let mut nodes = items;
     for step in way.as_slice() {
-        let number = number_near(nodes, step)?;
-        if path.try_push(number).is_err() {
+        let Some(number) = number_near(nodes, step) else {
+            return None;
+        };
+        if path.is_full() {
             return None;
         }
-        nodes = nodes.get(number as usize)?.inner.as_slice();
+        path.push(number);
+        let Some(node) = nodes.get(number as usize) else {
+            return None;
+        };
+        nodes = node.inner.as_slice();
     }
     Some(path)
 }

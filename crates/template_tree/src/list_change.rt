@@ -62,7 +62,10 @@ impl Nodes {
         ensures refused { IfErr result (λ _. self.new ≡ self.old) }
     {
         let Some((next, rest)) = path.split_first() else {
-            self.reserve_one()?;
+            if let Err(OutOfMemory) = self.reserve_one() {
+                drop(node);
+                return Err(OutOfMemory);
+            }
             self.insert_beside(k, side, node);
             return Ok(());
         };
@@ -91,6 +94,7 @@ impl Nodes {
         ensures { forest self.new.items ≡ edit_at (with_beside side node) (k ∷ []) (forest self.old.items) }
     {
         if k >= self.len() {
+            drop(node);
             return;
         }
         match side {

@@ -141,23 +141,15 @@ impl Tree {
             path.now.items (roomless_tree self.old)) }
         ensures refused { IfErr result (λ _. self.new ≡ self.old) }
     {
-        self.add_item(path, side, node)?;
-        self.note_list(path);
-        let _ = self.enter_slots(alloc);
-        Ok(())
-    }
-
-    /// As `add_beside`, but notes nothing.
-    fn add_item(&mut self, path: &Path, side: Side, node: Node) -> Result<(), OutOfMemory>
-        requires there { IsSome (node_at self.old.items path.now.items) }
-        ensures added { IfOk result (λ _. roomless_tree self.new ≡ with_edit (with_beside side (roomless_node node))
-            path.now.items (roomless_tree self.old)) }
-        ensures refused { IfErr result (λ _. self.new ≡ self.old) }
-    {
         let Some((k, rest)) = path.split_first() else {
             unreachable!()
         };
-        self.items.add_at(*k as usize, rest, side, node)
+        if let Err(OutOfMemory) = self.items.add_at(*k as usize, rest, side, node) {
+            return Err(OutOfMemory);
+        }
+        self.note_list(path);
+        let _ = self.enter_slots(alloc);
+        Ok(())
     }
 
     /// Drops the hole at the path from its list, if one is there, gives it, and notes where its neighbours

@@ -206,13 +206,18 @@ impl Nodes {
         ensures { IfOk result (λ list. list.items ≡ first ∷ (second ∷ [])) }
     {
         let mut list = Nodes::new(alloc);
-        if let Err(_) = list.push(first) {
+        if let Err(OutOfMemory) = list.put_last(first) {
+            drop(list);
+            drop(second);
             return Err(OutOfMemory);
         }
-        if let Err(_) = list.push(second) {
-            return Err(OutOfMemory);
+        match list.put_last(second) {
+            Ok(()) => Ok(list),
+            Err(OutOfMemory) => {
+                drop(list);
+                Err(OutOfMemory)
+            }
         }
-        Ok(list)
     }
 
     /// Takes memory for one node more in the list.
@@ -225,6 +230,18 @@ impl Nodes {
         if let Err(_) = self.list.reserve(1) {
             return Err(OutOfMemory);
         }
+        Ok(())
+    }
+
+    /// Puts a node at the end of the list, or lets go of it where there is no memory for it.
+    pub(crate) fn put_last(&mut self, node: Node) -> Result<(), OutOfMemory>
+        ensures { OnOk result (self.new.items ≡ self.old.items ++ node ∷ []) }
+    {
+        if let Err(_) = self.list.reserve(1) {
+            drop(node);
+            return Err(OutOfMemory);
+        }
+        self.list.push_reserved(node);
         Ok(())
     }
 

@@ -35,6 +35,8 @@ pub(crate) fn halves(path: &[u32]) -> Option<(&[u32], u32, &[u32])>
     ensures none { IfNone result (path.now ≡ []) }
 {
     let (front, rest) = path.split_at(path.len() / 2);
-    let (middle, back) = rest.split_first()?;
-    Some((front, *middle, back))
+    match rest.split_first() {
+        Some((middle, back)) => Some((front, *middle, back)),
+        None => None,
+    }
 }

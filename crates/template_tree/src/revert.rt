@@ -229,28 +229,18 @@ impl Tree {
         ensures came { self.new ≡ with_node self.old path.now.items node }
         ensures gone { node_at self.old.items path.now.items ≡ Some result }
     {
-        let gone = self.bring_node_back(path, node);
-        self.note(path);
-        gone
-    }
-
-    /// As `swap_node`, but notes nothing.
-    fn bring_node_back(&mut self, path: &Path, node: Node) -> Node
-        requires tree { IsTree self.old }
-        requires there { IsSome (node_at self.old.items path.now.items) }
-        ensures came { self.new ≡ with_node self.old path.now.items node }
-        ensures gone { node_at self.old.items path.now.items ≡ Some result }
-    {
         let Some(there) = self.node_mut(path) else {
             unreachable!()
         };
-        mem::replace(there, node)
+        let gone = mem::replace(there, node);
+        self.note(path);
+        gone
     }
 }
 
 impl Node {
     /// Sets a part of this node, if it has this one, to what comes back, and gives what brings this node back again.
-    fn swap_part(&mut self, part: u8, place: PhrasePlace) -> PhrasePlace
+    pub(crate) fn swap_part(&mut self, part: u8, place: PhrasePlace) -> PhrasePlace
         ensures came { self.new ≡ with_part part (plain_phrase_place place) self.old }
         ensures gone { with_part part (plain_phrase_place result) self.new ≡ self.old }
     {

@@ -42,8 +42,12 @@ impl Node {
         ensures within { IfSome result (λ slots. (slots ≡ count self.now.inner + 1) × (slots ≤ most)) }
         ensures over { IfNone result (most < count self.now.inner + 1) }
     {
-        let others = most.checked_sub(1)?;
-        let left = slots_left(self.inner.as_slice(), others)?;
-        Some(most - left)
+        let Some(others) = most.checked_sub(1) else {
+            return None;
+        };
+        match slots_left(self.inner.as_slice(), others) {
+            Some(left) => Some(most - left),
+            None => None,
+        }
     }
 }

@@ -46,15 +46,20 @@ impl Tree {
     {
         let declaration = Node::bare(alloc, Slot(1), NodeKind::DeclarationHole);
         let statement = Node::bare(alloc, Slot(2), NodeKind::StatementHole);
-        let procedure = Node::bare(alloc, Slot(3), NodeKind::ProcedureHole);
+        let Ok(inner) = Nodes::two(alloc, declaration, statement) else {
+            return Err(OutOfMemory);
+        };
         let main = Node {
             slot: Slot(0),
             kind: NodeKind::Main,
             elided: false,
             parts: Vec::new(alloc),
-            inner: Nodes::two(alloc, declaration, statement)?,
+            inner,
         };
-        let items = Nodes::two(alloc, main, procedure)?;
+        let procedure = Node::bare(alloc, Slot(3), NodeKind::ProcedureHole);
+        let Ok(items) = Nodes::two(alloc, main, procedure) else {
+            return Err(OutOfMemory);
+        };
         Ok(Tree {
             items,
             drawn: 4,

@@ -45,11 +45,23 @@ impl Tree {
             (roomless_tree self.old) }
     {
         match undoing {
-            Undoing::Put(node) => self.restore_node(path, Some(node)),
+            Undoing::Put(node) => {
+                drop(back);
+                self.restore_node(path, Some(node));
+            }
             Undoing::PutBack => self.restore_node(path, back),
-            Undoing::SetPart(part, place) => self.restore_part(path, part, place),
-            Undoing::TakeOut => self.remove_added(path),
-            Undoing::PutIn(side, hole) => self.restore_dropped(path, side, hole),
+            Undoing::SetPart(part, place) => {
+                drop(back);
+                self.restore_part(path, part, place);
+            }
+            Undoing::TakeOut => {
+                drop(back);
+                drop(self.drop_item(path));
+            }
+            Undoing::PutIn(side, hole) => {
+                drop(back);
+                self.restore_dropped(path, side, hole);
+            }
         }
     }
 }
@@ -76,9 +88,10 @@ impl Tree {
             return;
         };
         let Some(there) = self.node_mut(path) else {
+            drop(node);
             return;
         };
-        mem::replace(there, node);
+        drop(mem::replace(there, node));
     }
 
     /// Sets a part of the node at the path again to what it held before the edit that is undone.
@@ -88,30 +101,10 @@ impl Tree {
             path.now.items (roomless_tree self.old) }
     {
         let Some(node) = self.node_mut(path) else {
+            drop(place);
             return;
         };
-        node.restore_part(part, place);
-    }
-
-    /// Undoes an addition: takes the item at the path, which an edit added, out of its list, and notes where its
-    /// neighbours stand.
-    fn remove_added(&mut self, path: &Path)
-        requires tree { IsTree self.old }
-        ensures { roomless_tree self.new ≡ with_edit (λ _. []) path.now.items (roomless_tree self.old) }
-    {
-        self.take_added_out(path);
-        self.note_list(path);
-    }
-
-    /// As `remove_added`, but notes nothing.
-    fn take_added_out(&mut self, path: &Path)
-        requires tree { IsTree self.old }
-        ensures { roomless_tree self.new ≡ with_edit (λ _. []) path.now.items (roomless_tree self.old) }
-    {
-        let Some((k, rest)) = path.split_first() else {
-            return;
-        };
-        self.items.remove_at(*k as usize, rest);
+        drop(node.swap_part(part, place));
     }
 
     /// Undoes a drop: puts the hole, which an edit dropped, back into its list beside the item at the path, and notes
@@ -122,32 +115,10 @@ impl Tree {
         ensures { roomless_tree self.new ≡ with_edit (with_beside side (roomless_node hole)) path.now.items
             (roomless_tree self.old) }
     {
-        self.put_dropped_back(path, side, hole);
-        self.note_list(path);
-    }
-
-    /// As `restore_dropped`, but notes nothing.
-    fn put_dropped_back(&mut self, path: &Path, side: Side, hole: Node)
-        requires tree { IsTree self.old }
-        requires room { 0 < list_room self.old.spare self.old.items path.now.items }
-        ensures { roomless_tree self.new ≡ with_edit (with_beside side (roomless_node hole)) path.now.items
-            (roomless_tree self.old) }
-    {
         let Some((k, rest)) = path.split_first() else {
             unreachable!()
         };
         self.items.insert_at(*k as usize, rest, side, hole);
-    }
-}
-
-impl Node {
-    /// Sets a part of this node again to what it held before the edit that is undone.
-    fn restore_part(&mut self, part: u8, place: PhrasePlace)
-        ensures { self.new ≡ with_part part (plain_phrase_place place) self.old }
-    {
-        let Some(there) = self.parts.get_mut(part as usize) else {
-            return;
-        };
-        mem::replace(there, place);
+        self.note_list(path);
     }
 }

@@ -1,8 +1,20 @@
-use Rattle.std.proofs.Common.{◌≡◌, ◌≤◌, map, take}
+use Rattle.std.proofs.Common.{◌≡◌, ◌+◌, ◌*◌, ◌≤◌, map, take}
 use Rattle.plcs_grammar.specs.declared.expr.Expr.{size-Expr}
 use Rattle.plcs_grammar.specs.PlainPhrase.{plain_expr}
 use Rattle.plcs_grammar.specs.Private.Link.{linked}
 use Rattle.plcs_grammar.proofs.expr_copy.+copy_expr.Given as goal
+
+abbrev pub decreases-copy_expr : goal.decreases-copy_expr
+decreases-copy_expr l = goal.size-copy_expr l * 4
+
+abbrev pub decreases-copy_variable : goal.decreases-copy_variable
+decreases-copy_variable l = goal.size-copy_variable l * 4 + 2
+
+abbrev pub decreases-copy_inside : goal.decreases-copy_inside
+decreases-copy_inside l = goal.size-copy_inside l * 4 + 1
+
+abbrev pub decreases-copy_exprs : goal.decreases-copy_exprs
+decreases-copy_exprs l = goal.size-copy_exprs l * 4 + 1
 
 abbrev pub invariant-copy_expr-loop-at : goal.invariant-copy_expr-loop-at
 invariant-copy_expr-loop-at l =

@@ -21,6 +21,6 @@ returns t c =
     on_ok c.push_holes.result
     (λ rest.
     one_more (forest (hole_list 0 (hole_of c.in-Some.section.now.sort))) (roomless (forest c.push_hole.new.list.items))
-    (section_holes (map plain_section c.in-Some.others.now)) (roomless (forest c.push_holes.new.list.items)) old c.in_ok-push_hole.ensures rest
+    (section_holes (map plain_section c.in-Some.others.now)) (roomless (forest c.push_holes.new.list.items)) old c.in_default-push_hole.ensures rest
     ∙ ap (λ ss. join old (section_holes (map plain_section ss))) (sym whole))
     c.push_holes.ensures

@@ -27,18 +27,18 @@ returns t c =
     let same : roomless (forest c.loop-node.inner.items) ≡ roomless (whole node.inner) =
     inner ∙ ap (λ (n : PlainNode). roomless (whole n.inner)) (sym c.self.view_is)
     in
-    let parts : map plain_phrase_place c.in_ok-parts.parts.items ≡ node.label.parts =
-    c.in_ok-parts.ensures ∙ ap (map plain_phrase_place) c.as_slice.ensures.value
+    let parts : map plain_phrase_place c.in-Ok.parts.items ≡ node.label.parts =
+    c.in-Ok.ensures ∙ ap (map plain_phrase_place) c.as_slice.ensures.value
     in
     let copy : PlainNode =
     record {
-      label = record node.label { parts = map plain_phrase_place c.in_ok-parts.parts.items; elided = false; spare = c.loop-node.inner.spare };
+      label = record node.label { parts = map plain_phrase_place c.in-Ok.parts.items; elided = false; spare = c.loop-node.inner.spare };
       inner = forest c.loop-node.inner.items;
     }
     in
     let is : IsCopy c.args.self.now copy =
     subst (λ n. IsCopy n copy) c.self.view_is
-    (put_together node.label (map plain_phrase_place c.in_ok-parts.parts.items) (forest c.loop-node.inner.items) node.inner c.loop-node.inner.spare parts same)
+    (put_together node.label (map plain_phrase_place c.in-Ok.parts.items) (forest c.loop-node.inner.items) node.inner c.loop-node.inner.spare parts same)
     in
     record {
       copied = is;

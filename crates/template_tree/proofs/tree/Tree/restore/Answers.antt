@@ -10,7 +10,7 @@ pub returns-in-SetPart : goal.returns-in-SetPart
 returns-in-SetPart c = rw c.in-SetPart.is c.restore_part.ensures
 
 pub returns-in-TakeOut : goal.returns-in-TakeOut
-returns-in-TakeOut c = rw c.in-TakeOut.is c.remove_added.ensures
+returns-in-TakeOut c = rw c.in-TakeOut.is c.drop_item.ensures.others
 
 pub returns-in-PutIn : goal.returns-in-PutIn
 returns-in-PutIn c = rw c.in-PutIn.is c.restore_dropped.ensures

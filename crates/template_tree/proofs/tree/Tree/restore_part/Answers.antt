@@ -16,6 +16,6 @@ pub returns : goal.returns
 returns c =
     let change : PlainNode → List PlainNode = λ item. with_part c.args.part (plain_phrase_place c.args.place) item ∷ [] in
     ap (λ (items : Forest). let t : PlainTree = record (roomless_tree c.args.self.now) { items = roomless items } in t)
-    (edits_alike (λ _. c.restore_part.new.self ∷ []) change c.args.self.now.items c.args.path.now.items c.in-Some.node.now
-    (sym c.in-Some.ensures.found) (ap (λ n. n ∷ []) c.restore_part.ensures))
+    (edits_alike (λ _. c.swap_part.new.self ∷ []) change c.args.self.now.items c.args.path.now.items c.in-Some.node.now
+    (sym c.in-Some.ensures.found) (ap (λ n. n ∷ []) c.swap_part.ensures.came))
     ∙ with_edit_is change change (λ _. refl) c.args.path.now.items c.args.self.now

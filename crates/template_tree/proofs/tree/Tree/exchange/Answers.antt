@@ -11,7 +11,7 @@ use Rattle.template_tree.specs.Private.Exchange.{MayReplace}
 use Rattle.template_tree.proofs.Edits.Procedures.{way_where}
 use Rattle.template_tree.proofs.Trees.Counts.{counted_below}
 use Rattle.template_tree.proofs.Puts.PutEdits.{come, exchanged_is, put_change, of_there}
-use Rattle.template_tree.proofs.tree.Tree.exchange_nodes.Goals as goal
+use Rattle.template_tree.proofs.tree.Tree.exchange.Goals as goal
 
 -- the old node stands at the path
 there : (c : goal.After-of_node) → node_at c.args.self.now.items c.args.path.now.items ≡ Some c.replace-old.result
@@ -52,7 +52,8 @@ pub returns-clause-put : goal.returns-clause-put
 returns-clause-put c =
     let drawn : c.self.inside.drawn ≡ c.args.self.now.drawn = ap (λ (t : PlainTree). t.drawn) c.self.view_is in
     let live : c.self.inside.live ≡ c.args.self.now.live = ap (λ (t : PlainTree). t.live) c.self.view_is in
-    exchanged_is c.args.self.now c.args.path.now.items c.replace-old.result c.args.node c.replace-old.new.dest (the_view c.self-2.inside)
+    c.note.ensures
+    ∙ exchanged_is c.args.self.now c.args.path.now.items c.replace-old.result c.args.node c.replace-old.new.dest (the_view c.self-2.inside)
     c.settle-next.result (c.self.inside.live - c.slots.result + 1 + (c.settle-next.result - c.self.inside.drawn)) c.slots.result
     c.requires.tree (there c) c.self-2.view_is (came_is c)
     (c.settle-next.ensures.next ∙ ap (λ n. n + count c.args.node.inner) drawn)
