@@ -36,6 +36,7 @@ pub fn build(
     let mut state = start_state(alloc, category)?;
     for token in tokens {
         if let Err(fault) = shift(alloc, &mut state, text, *token) {
+            drop(state);
             return Err(fault);
         }
     }

@@ -14,7 +14,7 @@ use crate::builder::state::ParseState;
 use crate::not_read::NotRead;
 use plcs_base::Name;
 use plcs_grammar::{Expr, Phrase, VarRef};
-use std::alloc::Global;
+use std::alloc::{AllocError, Global};
 
 /// The base of an expression that stands in no other: what it is for, with what of the phrase stands before it.
 #[derive(Drop)]
@@ -50,13 +50,27 @@ pub fn shift_close_base(alloc: Global, base: Base, expr: Expr) -> Result<ParseSt
     ensures { Gives state_of result (shift_close_base (base_of base) (plain_expr expr)) }
 {
     match base {
-        Base::TargetSubscript(name) => Ok(ParseState::TargetHad(subscripted(alloc, name, expr)?)),
-        Base::VariableSubscript(done, name) => {
-            let variable = subscripted(alloc, name, expr)?;
-            Ok(ParseState::VariableHad(with_variable(done, variable)?))
-        }
-        Base::CallArguments(name, done) => Ok(ParseState::CallHad(name, with_expr(done, expr)?)),
+        Base::TargetSubscript(name) => match subscripted(alloc, name, expr) {
+            Ok(target) => Ok(ParseState::TargetHad(target)),
+            Err(AllocError) => Err(NotRead::OutOfMemory),
+        },
+        Base::VariableSubscript(done, name) => match subscripted(alloc, name, expr) {
+            Ok(variable) => match with_variable(done, variable) {
+                Ok(all) => Ok(ParseState::VariableHad(all)),
+                Err(AllocError) => Err(NotRead::OutOfMemory),
+            },
+            Err(AllocError) => {
+                drop(done);
+                Err(NotRead::OutOfMemory)
+            }
+        },
+        Base::CallArguments(name, done) => match with_expr(done, expr) {
+            Ok(all) => Ok(ParseState::CallHad(name, all)),
+            Err(AllocError) => Err(NotRead::OutOfMemory),
+        },
         Base::Condition | Base::Expression | Base::Expressions(_) | Base::Assigned(_) => {
+            drop(base);
+            drop(expr);
             Err(NotRead::Refused)
         }
     }
@@ -67,19 +81,23 @@ pub fn shift_comma_base(alloc: Global, base: Base, expr: Expr) -> Result<ParseSt
     ensures { Gives state_of result (shift_comma_base (base_of base) (plain_expr expr)) }
 {
     match base {
-        Base::Expressions(done) => {
-            let done = with_expr(done, expr)?;
-            Ok(wanted_on(alloc, Base::Expressions(done)))
-        }
-        Base::CallArguments(name, done) => {
-            let done = with_expr(done, expr)?;
-            Ok(wanted_on(alloc, Base::CallArguments(name, done)))
-        }
+        Base::Expressions(done) => match with_expr(done, expr) {
+            Ok(all) => Ok(wanted_on(alloc, Base::Expressions(all))),
+            Err(AllocError) => Err(NotRead::OutOfMemory),
+        },
+        Base::CallArguments(name, done) => match with_expr(done, expr) {
+            Ok(all) => Ok(wanted_on(alloc, Base::CallArguments(name, all))),
+            Err(AllocError) => Err(NotRead::OutOfMemory),
+        },
         Base::Condition
         | Base::Expression
         | Base::Assigned(_)
         | Base::TargetSubscript(_)
-        | Base::VariableSubscript(_, _) => Err(NotRead::Refused),
+        | Base::VariableSubscript(_, _) => {
+            drop(base);
+            drop(expr);
+            Err(NotRead::Refused)
+        }
     }
 }
 
@@ -90,9 +108,14 @@ pub fn phrase_of_base(base: Base, expr: Expr) -> Result<Phrase, NotRead>
     match base {
         Base::Condition => Ok(Phrase::Condition(expr)),
         Base::Expression => Ok(Phrase::Expression(expr)),
-        Base::Expressions(done) => Ok(Phrase::ExpressionList(with_expr(done, expr)?)),
+        Base::Expressions(done) => match with_expr(done, expr) {
+            Ok(all) => Ok(Phrase::ExpressionList(all)),
+            Err(AllocError) => Err(NotRead::OutOfMemory),
+        },
         Base::Assigned(target) => Ok(Phrase::Assignment(target, expr)),
         Base::TargetSubscript(_) | Base::VariableSubscript(_, _) | Base::CallArguments(_, _) => {
+            drop(base);
+            drop(expr);
             Err(NotRead::Refused)
         }
     }

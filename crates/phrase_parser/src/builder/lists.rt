@@ -13,8 +13,14 @@ pub fn with_expr(done: Vec<Expr>, expr: Expr) -> Result<Vec<Expr>, AllocError>
     ensures { IfOk result (λ all. plain_exprs all.items ≡ expr_push (plain_exprs done.items) (plain_expr expr)) }
 {
     let mut all = done;
-    all.push(expr)?;
-    Ok(all)
+    match all.push(expr) {
+        Ok(()) => Ok(all),
+        Err(refused) => {
+            drop(refused);
+            drop(all);
+            Err(AllocError)
+        }
+    }
 }
 
 /// A phrase's list of variables with one more at its end.
@@ -24,8 +30,14 @@ pub fn with_variable(done: Vec<VarRef>, variable: VarRef) -> Result<Vec<VarRef>,
         (λ all. map plain_var_ref all.items ≡ map plain_var_ref done.items ++ (plain_var_ref variable ∷ [])) }
 {
     let mut all = done;
-    all.push(variable)?;
-    Ok(all)
+    match all.push(variable) {
+        Ok(()) => Ok(all),
+        Err(refused) => {
+            drop(refused);
+            drop(all);
+            Err(AllocError)
+        }
+    }
 }
 
 /// A phrase's list of declared items with one more at its end.

@@ -13,7 +13,7 @@ use crate::builder::state::{ParseState, shift_open};
 use crate::not_read::NotRead;
 use plcs_base::Name;
 use plcs_grammar::{Item, Phrase, VarRef};
-use std::alloc::Global;
+use std::alloc::{AllocError, Global};
 
 /// The role of a name that stands in no expression: what it is for, with what of the phrase stands before it.
 #[derive(Drop)]
@@ -52,18 +52,18 @@ pub fn shift_comma_role(role: Role, name: Name) -> Result<ParseState, NotRead>
     ensures { Gives state_of result (shift_comma_role (role_of role) name) }
 {
     match role {
-        Role::Variables(done) => {
-            let done = with_variable(done, simple(name))?;
-            Ok(ParseState::NameWanted(Role::Variables(done)))
-        }
-        Role::Items(done) => {
-            let done = with_item(done, name, None)?;
-            Ok(ParseState::NameWanted(Role::Items(done)))
-        }
-        Role::Names(done) => {
-            let done = with_name(done, name)?;
-            Ok(ParseState::NameWanted(Role::Names(done)))
-        }
+        Role::Variables(done) => match with_variable(done, simple(name)) {
+            Ok(all) => Ok(ParseState::NameWanted(Role::Variables(all))),
+            Err(AllocError) => Err(NotRead::OutOfMemory),
+        },
+        Role::Items(done) => match with_item(done, name, None) {
+            Ok(all) => Ok(ParseState::NameWanted(Role::Items(all))),
+            Err(AllocError) => Err(NotRead::OutOfMemory),
+        },
+        Role::Names(done) => match with_name(done, name) {
+            Ok(all) => Ok(ParseState::NameWanted(Role::Names(all))),
+            Err(AllocError) => Err(NotRead::OutOfMemory),
+        },
         Role::Target | Role::Callee | Role::Variable | Role::Procedure => Err(NotRead::Refused),
     }
 }
@@ -89,10 +89,19 @@ pub fn phrase_of_role(alloc: Global, role: Role, name: Name) -> Result<Phrase, N
 {
     match role {
         Role::Target => Err(NotRead::Refused),
-        Role::Variables(done) => Ok(Phrase::VariableList(with_variable(done, simple(name))?)),
+        Role::Variables(done) => match with_variable(done, simple(name)) {
+            Ok(all) => Ok(Phrase::VariableList(all)),
+            Err(AllocError) => Err(NotRead::OutOfMemory),
+        },
         Role::Callee => Ok(Phrase::CallRef(name, Vec::new(alloc))),
-        Role::Items(done) => Ok(Phrase::DeclaredList(with_item(done, name, None)?)),
-        Role::Names(done) => Ok(Phrase::NameList(with_name(done, name)?)),
+        Role::Items(done) => match with_item(done, name, None) {
+            Ok(all) => Ok(Phrase::DeclaredList(all)),
+            Err(AllocError) => Err(NotRead::OutOfMemory),
+        },
+        Role::Names(done) => match with_name(done, name) {
+            Ok(all) => Ok(Phrase::NameList(all)),
+            Err(AllocError) => Err(NotRead::OutOfMemory),
+        },
         Role::Variable => Ok(Phrase::Variable(name)),
         Role::Procedure => Ok(Phrase::ProcedureName(name)),
     }

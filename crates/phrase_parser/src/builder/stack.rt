@@ -1,8 +1,8 @@
 //! The builder's stack: what stands open around an operand, and what each sign does to it.
 
-ghost use Rattle.std.specs.Prelude.{◌≡◌, IfOk};
+ghost use Rattle.std.specs.Prelude.{◌≡◌, IfOk, Some};
 ghost use Rattle.phrase_parser.specs.NotRead.{Gives};
-ghost use Rattle.phrase_parser.specs.Private.Machine.{open_frame, shift_open_after, shift_open, ParseStack as OpenStack, shift_close_base, shift_close_stack, shift_close, shift_comma_base, shift_comma_stack, after_infix, shift_prefix, shift_infix, phrase_of_base, phrase_of_stack, reduced};
+ghost use Rattle.phrase_parser.specs.Private.Machine.{open_frame, shift_open_after, shift_open, ParseStack as OpenStack, ParseState as MachineState, shift_close_base, shift_close_stack, shift_close, shift_comma_base, shift_comma_stack, after_infix, shift_prefix, shift_infix, phrase_of_base, phrase_of_stack, reduced};
 ghost use Rattle.phrase_parser.specs.Private.Views.{stack_of, primary_of, state_of, pushed, pair_of};
 ghost use Rattle.plcs_grammar.specs.PlainPhrase.{plain_expr, plain_phrase};
 ghost use Rattle.plcs_grammar.specs.Level.{priority};
@@ -52,11 +52,12 @@ pub fn shift_open_after(
     ensures { Gives state_of result (shift_open_after (stack_of stack) (primary_of primary)) }
 {
     let Primary::Name(name) = primary else {
+        drop(primary);
+        drop(stack);
         return Err(NotRead::Refused);
     };
     let function = Builtin::read(name.as_bytes());
-    let frame = open_frame(alloc, name, function);
-    Ok(ParseState::Wanted(with_frame(stack, frame)?))
+    wanted_in(stack, open_frame(alloc, name, function))
 }
 
 /// The frame that a parenthesis opens on the stack behind a name, which may be that of the built-in function.
@@ -79,16 +80,46 @@ pub fn shift_close_stack(
     ensures { Gives state_of result (shift_close_stack (stack_of stack) (plain_expr expr)) }
 {
     let ParseStack { base, mut frames } = stack;
-    let Some(frame) = frames.pop() else {
-        return shift_close_base(alloc, base, expr);
-    };
-    let primary = match frame {
-        ParseFrame::Parenthesis => parenthesized(alloc, expr)?,
-        ParseFrame::Subscript(name) => element(alloc, name, expr)?,
-        ParseFrame::Arguments(function, done) => Primary::Call(function, with_expr(done, expr)?),
-        ParseFrame::Prefix(_) | ParseFrame::Left(_, _) => return Err(NotRead::Refused),
-    };
-    Ok(ParseState::Had(ParseStack { base, frames }, primary))
+    match frames.pop() {
+        None => {
+            drop(frames);
+            shift_close_base(alloc, base, expr)
+        }
+        Some(frame) => match closed(alloc, frame, expr) {
+            Ok(primary) => Ok(ParseState::Had(ParseStack { base, frames }, primary)),
+            Err(fault) => {
+                drop(frames);
+                drop(base);
+                Err(fault)
+            }
+        },
+    }
+}
+
+/// The primary that the innermost frame of a stack becomes after its closing parenthesis, if it has one.
+fn closed(alloc: Global, frame: ParseFrame, expr: Expr) -> Result<Primary, NotRead>
+    ensures { (s : OpenStack) → Gives (λ p. MachineState.had s (primary_of p)) result
+        (shift_close_stack (pushed frame s) (plain_expr expr)) }
+{
+    match frame {
+        ParseFrame::Parenthesis => match parenthesized(alloc, expr) {
+            Ok(primary) => Ok(primary),
+            Err(AllocError) => Err(NotRead::OutOfMemory),
+        },
+        ParseFrame::Subscript(name) => match element(alloc, name, expr) {
+            Ok(primary) => Ok(primary),
+            Err(AllocError) => Err(NotRead::OutOfMemory),
+        },
+        ParseFrame::Arguments(function, done) => match with_expr(done, expr) {
+            Ok(all) => Ok(Primary::Call(function, all)),
+            Err(AllocError) => Err(NotRead::OutOfMemory),
+        },
+        ParseFrame::Prefix(_) | ParseFrame::Left(_, _) => {
+            drop(frame);
+            drop(expr);
+            Err(NotRead::Refused)
+        }
+    }
 }
 
 /// The state that a stack becomes after a comma in the innermost parenthesis that is open on it.
@@ -102,21 +133,39 @@ pub fn shift_comma_stack(
 {
     let ParseStack { base, mut frames } = stack;
     match frames.pop() {
-        None => shift_comma_base(alloc, base, expr),
-        Some(ParseFrame::Arguments(function, done)) => {
-            let done = with_expr(done, expr)?;
-            let stack = with_frame(
-                ParseStack { base, frames },
-                ParseFrame::Arguments(function, done),
-            )?;
-            Ok(ParseState::Wanted(stack))
+        None => {
+            drop(frames);
+            shift_comma_base(alloc, base, expr)
         }
-        Some(
-            ParseFrame::Prefix(_)
-            | ParseFrame::Left(_, _)
-            | ParseFrame::Parenthesis
-            | ParseFrame::Subscript(_),
-        ) => { Err(NotRead::Refused) }
+        Some(frame) => match with_argument(frame, expr) {
+            Ok(frame) => wanted_in(ParseStack { base, frames }, frame),
+            Err(fault) => {
+                drop(frames);
+                drop(base);
+                Err(fault)
+            }
+        },
+    }
+}
+
+/// The frame that the innermost of a stack becomes after a comma behind one more argument, if it takes any.
+fn with_argument(frame: ParseFrame, expr: Expr) -> Result<ParseFrame, NotRead>
+    ensures { (s : OpenStack) → Gives (λ f. MachineState.wanted (pushed f s)) result
+        (shift_comma_stack (pushed frame s) (plain_expr expr)) }
+{
+    match frame {
+        ParseFrame::Arguments(function, done) => match with_expr(done, expr) {
+            Ok(all) => Ok(ParseFrame::Arguments(function, all)),
+            Err(AllocError) => Err(NotRead::OutOfMemory),
+        },
+        ParseFrame::Prefix(_)
+        | ParseFrame::Left(_, _)
+        | ParseFrame::Parenthesis
+        | ParseFrame::Subscript(_) => {
+            drop(frame);
+            drop(expr);
+            Err(NotRead::Refused)
+        }
     }
 }
 
@@ -125,8 +174,11 @@ pub fn shift_prefix(stack: ParseStack, op: Option<PrefixOp>) -> Result<ParseStat
     ensures { Gives state_of result (shift_prefix (stack_of stack) op) }
 {
     match op {
-        None => Err(NotRead::Refused),
-        Some(op) => Ok(ParseState::Wanted(with_frame(stack, ParseFrame::Prefix(op))?)),
+        None => {
+            drop(stack);
+            Err(NotRead::Refused)
+        }
+        Some(op) => wanted_in(stack, ParseFrame::Prefix(op)),
     }
 }
 
@@ -140,30 +192,56 @@ pub fn shift_infix(
     ensures { Gives state_of result (shift_infix (stack_of stack) (primary_of primary) op) }
 {
     match op {
-        None => Err(NotRead::Refused),
-        Some(op) => {
-            let (stack, left) = reduced(alloc, stack, priority(op), expression(primary))?;
-            Ok(after_infix(stack, left, op)?)
+        None => {
+            drop(stack);
+            drop(primary);
+            Err(NotRead::Refused)
         }
+        Some(op) => joined_before(alloc, stack, primary, op),
     }
 }
 
-/// What the builder's stack becomes after an infix operator whose left operand is joined already: a state in
-/// which an operand is wanted.
-pub fn after_infix(stack: ParseStack, left: Expr, op: InfixOp) -> Result<ParseState, AllocError>
-    ensures { IfOk result (λ s. state_of s ≡ after_infix op (pair_of (stack, left))) }
+/// The state that a stack becomes after this infix operator, once the operand before it is joined.
+pub fn joined_before(
+    alloc: Global,
+    stack: ParseStack,
+    primary: Primary,
+    op: InfixOp,
+) -> Result<ParseState, NotRead>
+    ensures { Gives state_of result
+        (Some (after_infix op (reduced (stack_of stack) (priority op) (primary_of primary)))) }
 {
-    Ok(ParseState::Wanted(with_frame(stack, ParseFrame::Left(left, op))?))
+    match reduced(alloc, stack, priority(op), expression(primary)) {
+        Ok((stack, left)) => wanted_in(stack, ParseFrame::Left(left, op)),
+        Err(AllocError) => Err(NotRead::OutOfMemory),
+    }
+}
+
+/// The state in which an operand is wanted on the builder's stack with one frame more.
+pub fn wanted_in(stack: ParseStack, frame: ParseFrame) -> Result<ParseState, NotRead>
+    ensures { Gives state_of result (Some (MachineState.wanted (pushed frame (stack_of stack)))) }
+{
+    match with_frame(stack, frame) {
+        Ok(stack) => Ok(ParseState::Wanted(stack)),
+        Err(AllocError) => Err(NotRead::OutOfMemory),
+    }
 }
 
 /// The builder's stack with one frame more.
 #[tactic(auto, using(crate::proofs::Frames::FrameStacks::stack_on_push))]
-pub fn with_frame(stack: ParseStack, frame: ParseFrame) -> Result<ParseStack, AllocError>
+fn with_frame(stack: ParseStack, frame: ParseFrame) -> Result<ParseStack, AllocError>
     ensures { IfOk result (λ s. stack_of s ≡ pushed frame (stack_of stack)) }
 {
     let ParseStack { base, mut frames } = stack;
-    frames.push(frame)?;
-    Ok(ParseStack { base, frames })
+    match frames.push(frame) {
+        Ok(()) => Ok(ParseStack { base, frames }),
+        Err(refused) => {
+            drop(refused);
+            drop(base);
+            drop(frames);
+            Err(AllocError)
+        }
+    }
 }
 
 /// The phrase that a stack ends as behind the expression, unless something is still open on it.
@@ -174,7 +252,13 @@ pub fn phrase_of_stack(stack: ParseStack, expr: Expr) -> Result<Phrase, NotRead>
     let ParseStack { base, mut frames } = stack;
     match frames.pop() {
         None => phrase_of_base(base, expr),
-        Some(_) => Err(NotRead::Refused),
+        Some(frame) => {
+            drop(frame);
+            drop(frames);
+            drop(base);
+            drop(expr);
+            Err(NotRead::Refused)
+        }
     }
 }
 
@@ -213,15 +297,36 @@ fn reduced_by_frames(
     let ParseStack { base, mut frames } = stack;
     let mut operand = operand;
     while let Some(frame) = frames.pop() {
-        match join(alloc, frame, level, operand)? {
-            Joined::Operand(whole) => operand = whole,
-            Joined::Open(frame, left_over) => {
-                frames.push(frame)?;
-                return Ok((ParseStack { base, frames }, left_over));
+        match join(alloc, frame, level, operand) {
+            Ok(Joined::Operand(whole)) => operand = whole,
+            Ok(Joined::Open(frame, left_over)) => {
+                return left_open(ParseStack { base, frames }, frame, left_over);
+            }
+            Err(AllocError) => {
+                drop(frames);
+                drop(base);
+                return Err(AllocError);
             }
         }
     }
     Ok((ParseStack { base, frames }, operand))
+}
+
+/// The builder's stack with the frame that stays open, and the operand in it.
+fn left_open(
+    stack: ParseStack,
+    frame: ParseFrame,
+    operand: Expr,
+) -> Result<(ParseStack, Expr), AllocError>
+    ensures { IfOk result (λ o. pair_of o ≡ (pushed frame (stack_of stack), plain_expr operand)) }
+{
+    match with_frame(stack, frame) {
+        Ok(stack) => Ok((stack, operand)),
+        Err(AllocError) => {
+            drop(operand);
+            Err(AllocError)
+        }
+    }
 }
 
 /// An operand, joined with the frame of the stack around it if that is an operator of the level or a higher one.

@@ -1,6 +1,6 @@
 //! The builder's state: what was read last and what is wanted, and what each token does to it.
 
-ghost use Rattle.phrase_parser.specs.Private.Machine.{start_state, shift, shift_operand, shift_name, shift_number, after_infix, shift_equal_role, shift_equal, shift_prefix, shift_infix, shift_operator, shift_sign, shift_open_after, shift_open_role, shift_open, shift_close_stack, shift_close, shift_comma_stack, shift_comma_role, shift_comma, phrase_of_stack, phrase_of_role, phrase_of};
+ghost use Rattle.phrase_parser.specs.Private.Machine.{start_state, shift, shift_operand, shift_name, shift_number, shift_equal_role, shift_equal, shift_prefix, shift_infix, shift_operator, shift_sign, shift_open_after, shift_open_role, shift_open, shift_close_stack, shift_close, shift_comma_stack, shift_comma_role, shift_comma, phrase_of_stack, phrase_of_role, phrase_of};
 ghost use Rattle.phrase_parser.specs.Private.TokenIn.{IsConstant, IsPlacedIn, between_quotes, token_in};
 ghost use Rattle.phrase_parser.specs.Private.Unquoted.{undoubled};
 ghost use Rattle.phrase_parser.specs.Private.Views.{state_of, primary_of};
@@ -16,16 +16,16 @@ use crate::builder::role::{
     Role, phrase_of_role, shift_comma_role, shift_equal_role, shift_open_role,
 };
 use crate::builder::stack::{
-    EVERY_LEVEL, ParseFrame, ParseStack, after_infix, phrase_of_stack, reduced, shift_close_stack,
-    shift_comma_stack, shift_infix, shift_open_after, shift_prefix, with_frame,
+    EVERY_LEVEL, ParseFrame, ParseStack, joined_before, phrase_of_stack, reduced,
+    shift_close_stack, shift_comma_stack, shift_infix, shift_open_after, shift_prefix, wanted_in,
 };
 use crate::builder::token_value::{constant_value, name_of};
 use crate::not_read::NotRead;
-use crate::operator::{infix_of, prefix_of, priority};
+use crate::operator::{infix_of, prefix_of};
 use crate::token::{Placed, TokenKind};
 use plcs_base::{LONGEST_TEXT, Name};
 use plcs_grammar::{Category, Expr, InfixOp, Item, Phrase, Sign, VarRef};
-use std::alloc::Global;
+use std::alloc::{AllocError, Global};
 use std::mem;
 
 /// A state of the builder: what was read last, and what is wanted.
@@ -122,14 +122,19 @@ fn shift_name(state: &mut ParseState, name: Name) -> Result<(), NotRead>
     ensures { Gives (λ _. state_of state.new) result (shift_name (state_of state.old) name) }
 {
     match taken(state) {
-        ParseState::Wanted(stack) => *state = ParseState::Had(stack, Primary::Name(name)),
-        ParseState::NameWanted(role) => *state = ParseState::NameHad(role, name),
+        ParseState::Wanted(stack) => {
+            drop(mem::replace(state, ParseState::Had(stack, Primary::Name(name))));
+            Ok(())
+        }
+        ParseState::NameWanted(role) => {
+            drop(mem::replace(state, ParseState::NameHad(role, name)));
+            Ok(())
+        }
         other => {
             let_go(other);
-            return Err(NotRead::Refused);
+            Err(NotRead::Refused)
         }
     }
-    Ok(())
 }
 
 /// Brings the builder's state on by a number, if one can stand there.
@@ -137,19 +142,18 @@ fn shift_number(state: &mut ParseState, n: u32) -> Result<(), NotRead>
     requires { n ≤ greatest_number }
     ensures { Gives (λ _. state_of state.new) result (shift_number (state_of state.old) n) }
 {
-    match taken(state) {
-        ParseState::Wanted(stack) => *state = ParseState::Had(stack, number(n)),
-        ParseState::SizeWanted(done, name) if n >= 1 => {
-            *state = ParseState::SizeHad(done, name, n);
-        }
+    let behind = match taken(state) {
+        ParseState::Wanted(stack) => ParseState::Had(stack, number(n)),
+        ParseState::SizeWanted(done, name) if n >= 1 => ParseState::SizeHad(done, name, n),
         ParseState::LengthWanted if n >= 1 && n as usize <= LONGEST_TEXT => {
-            *state = ParseState::LengthHad(n as u16);
+            ParseState::LengthHad(n as u16)
         }
         other => {
             let_go(other);
             return Err(NotRead::Refused);
         }
-    }
+    };
+    drop(mem::replace(state, behind));
     Ok(())
 }
 
@@ -158,13 +162,16 @@ fn shift_operand(state: &mut ParseState, primary: Primary) -> Result<(), NotRead
     ensures { Gives (λ _. state_of state.new) result (shift_operand (state_of state.old) (primary_of primary)) }
 {
     match taken(state) {
-        ParseState::Wanted(stack) => *state = ParseState::Had(stack, primary),
+        ParseState::Wanted(stack) => {
+            drop(mem::replace(state, ParseState::Had(stack, primary)));
+            Ok(())
+        }
         other => {
             let_go(other);
-            return Err(NotRead::Refused);
+            drop(primary);
+            Err(NotRead::Refused)
         }
     }
-    Ok(())
 }
 
 /// Brings the builder's state on by a sign, if it can stand there.
@@ -173,10 +180,12 @@ fn shift_sign(alloc: Global, state: &mut ParseState, sign: Sign) -> Result<(), N
     ensures { Gives (λ _. state_of state.new) result (shift_sign (state_of state.old) sign) }
 {
     match after_sign(alloc, taken(state), sign) {
-        Ok(behind) => *state = behind,
-        Err(fault) => return Err(fault),
+        Ok(behind) => {
+            drop(mem::replace(state, behind));
+            Ok(())
+        }
+        Err(fault) => Err(fault),
     }
-    Ok(())
 }
 
 /// The builder's state after a sign, if it can stand there.
@@ -198,10 +207,7 @@ pub fn shift_open(alloc: Global, state: ParseState) -> Result<ParseState, NotRea
     ensures { Gives state_of result (shift_open (state_of state)) }
 {
     match state {
-        ParseState::Wanted(stack) => Ok(ParseState::Wanted(with_frame(
-            stack,
-            ParseFrame::Parenthesis,
-        )?)),
+        ParseState::Wanted(stack) => wanted_in(stack, ParseFrame::Parenthesis),
         ParseState::Had(stack, primary) => shift_open_after(alloc, stack, primary),
         ParseState::NameHad(role, name) => shift_open_role(alloc, role, name),
         _ => {
@@ -217,12 +223,15 @@ pub fn shift_close(alloc: Global, state: ParseState) -> Result<ParseState, NotRe
 {
     match state {
         ParseState::Had(stack, primary) => {
-            let (stack, expr) = reduced(alloc, stack, EVERY_LEVEL, expression(primary))?;
-            shift_close_stack(alloc, stack, expr)
+            match reduced(alloc, stack, EVERY_LEVEL, expression(primary)) {
+                Ok((stack, expr)) => shift_close_stack(alloc, stack, expr),
+                Err(AllocError) => Err(NotRead::OutOfMemory),
+            }
         }
-        ParseState::SizeHad(done, name, size) => {
-            Ok(ParseState::ItemHad(with_item(done, name, Some(size))?))
-        }
+        ParseState::SizeHad(done, name, size) => match with_item(done, name, Some(size)) {
+            Ok(all) => Ok(ParseState::ItemHad(all)),
+            Err(AllocError) => Err(NotRead::OutOfMemory),
+        },
         _ => {
             let_go(state);
             Err(NotRead::Refused)
@@ -236,8 +245,10 @@ pub fn shift_comma(alloc: Global, state: ParseState) -> Result<ParseState, NotRe
 {
     match state {
         ParseState::Had(stack, primary) => {
-            let (stack, expr) = reduced(alloc, stack, EVERY_LEVEL, expression(primary))?;
-            shift_comma_stack(alloc, stack, expr)
+            match reduced(alloc, stack, EVERY_LEVEL, expression(primary)) {
+                Ok((stack, expr)) => shift_comma_stack(alloc, stack, expr),
+                Err(AllocError) => Err(NotRead::OutOfMemory),
+            }
         }
         ParseState::NameHad(role, name) => shift_comma_role(role, name),
         ParseState::VariableHad(done) => Ok(ParseState::NameWanted(Role::Variables(done))),
@@ -255,11 +266,7 @@ fn shift_equal(alloc: Global, state: ParseState) -> Result<ParseState, NotRead>
     ensures { Gives state_of result (shift_equal (state_of state)) }
 {
     match state {
-        ParseState::Had(stack, primary) => {
-            let op = InfixOp::Equal;
-            let (stack, left) = reduced(alloc, stack, priority(op), expression(primary))?;
-            Ok(after_infix(stack, left, op)?)
-        }
+        ParseState::Had(stack, primary) => { joined_before(alloc, stack, primary, InfixOp::Equal) }
         ParseState::NameHad(role, name) => shift_equal_role(alloc, role, name),
         ParseState::TargetHad(target) => Ok(wanted_on(alloc, Base::Assigned(target))),
         _ => {
@@ -289,8 +296,10 @@ pub fn phrase_of(alloc: Global, state: ParseState) -> Result<Phrase, NotRead>
 {
     match state {
         ParseState::Had(stack, primary) => {
-            let (stack, expr) = reduced(alloc, stack, EVERY_LEVEL, expression(primary))?;
-            phrase_of_stack(stack, expr)
+            match reduced(alloc, stack, EVERY_LEVEL, expression(primary)) {
+                Ok((stack, expr)) => phrase_of_stack(stack, expr),
+                Err(AllocError) => Err(NotRead::OutOfMemory),
+            }
         }
         ParseState::NameHad(role, name) => phrase_of_role(alloc, role, name),
         ParseState::VariableHad(done) => Ok(Phrase::VariableList(done)),
@@ -307,4 +316,6 @@ pub fn phrase_of(alloc: Global, state: ParseState) -> Result<Phrase, NotRead>
 /// Lets a state go behind which a token can't stand. A function clears the room of all its values whenever it begins,
 /// and letting a state go has a value for each part that it may have, so that is done in a function of its own.
 #[inline(never)]
-fn let_go(_state: ParseState) {}
+fn let_go(state: ParseState) {
+    drop(state);
+}
