@@ -2,7 +2,7 @@
 -- into: so what is laid is joined by one lemma, and what that makes of a draft or of a tally is found by one induction
 -- each.
 use Rattle.std.proofs.Common.{ℕ, ◌+◌, ◌≤◌, false, List, [], ◌∷◌, ◌++◌, length, ◌≡◌, refl, subst, ap, sym, ◌∙◌, arith, append_assoc}
-use Rattle.std.specs.Prelude.{Err, Ok, OnOk, Result}
+use Rattle.std.specs.Prelude.{Err, IfOk, Ok, OnOk, Result}
 use Rattle.std.proofs.lemmas.List.{append-nil}
 use Rattle.plcs_base.specs.Count.{raised_by}
 use Rattle.plcs_base.specs.PlainCounts.{PlainCounts}
@@ -48,6 +48,11 @@ ok_always (Err error) fact = tt
 pub ok_then : {T E P Q : Type 0} (result : Result T E) → (P → Q) → OnOk result P → OnOk result Q
 ok_then (Ok value) follows fact = follows fact
 ok_then (Err error) follows fact = tt
+
+-- what follows from a fact on what a call gives holds where that fact does, if the call succeeds
+pub if_ok_then : {T E : Type 0} {P Q : T → Type 0} (result : Result T E) → IfOk result P → ((value : T) → P value → Q value) → IfOk result Q
+if_ok_then (Ok value) fact follows = follows value fact
+if_ok_then (Err error) fact follows = tt
 
 -- a count that is raised by nothing stays
 raised_none : (count : ℕ) → raised_by 0 count ≡ count
@@ -124,6 +129,12 @@ drafted {a = a} {b = c} {u = u} {v = w} (lays_next {between = b} {second = v} {i
       counts = emits_then 1 (length code) (length (instr ∷ code)) u v w (omega arith) one.counts more.counts;
     }
 
+-- what was laid into a draft of no instructions is its code, if memory didn't run out
+pub whole_code : {E : Type 0} {a b : PlainDraft} {u v : PlainCounts} {code : List PlainInstr} (result : Result (List PlainInstr) E) → Drafted a u code b v
+    → a.instrs ≡ [] → OnOk result (b.failed ≡ false) → IfOk result (λ block. block ≡ b.instrs) → IfOk result (λ block. block ≡ code)
+whole_code {code = code} (Ok block) done none whole instrs = instrs ∙ done.instrs whole ∙ ap (λ xs. xs ++ code) none
+whole_code (Err error) done none whole instrs = tt
+
 -- what a tally tells of instructions, unless there are too many; they are no work
 pub record Tallied (before : PlainTally) (u : PlainCounts) (code : List PlainInstr) (after : PlainTally) (v : PlainCounts) : Type 0 where
   pub failed : after.failed ≡ false → before.failed ≡ false
@@ -140,3 +151,9 @@ tallied {a = a} {b = c} (lays_next {between = b} {code = code} one rest) =
       count = λ h. let e = more.count h in let f = one.count (more.failed h) in omega arith;
       counts = more.counts ∙ one.counts;
     }
+
+-- what was laid into a tally of no instructions was counted, if there weren't too many
+pub whole_count : {E : Type 0} {a b : PlainTally} {u v : PlainCounts} {code : List PlainInstr} (result : Result ℕ E) (number : ℕ) → Tallied a u code b v
+    → a.count ≡ 0 → length code ≡ number → OnOk result (b.failed ≡ false) → IfOk result (λ n. n ≡ b.count) → IfOk result (λ n. n ≡ number)
+whole_count (Ok n) number done none is whole count = omega (arith, done.count whole, none, is, count)
+whole_count (Err error) number done none is whole count = tt

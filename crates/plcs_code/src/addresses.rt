@@ -46,14 +46,18 @@ impl Addresses {
             ≡ from_entries (flat_map node_address nodes.now ++ addresses_in 0 code.now)) }
     {
         let mut addresses = Addresses::new(alloc);
-        addresses.note_code(code)?;
+        let Ok(()) = addresses.note_code(code) else {
+            return Err(OutOfMemory);
+        };
         let mut k = nodes.len();
         while k > 0 {
             k -= 1;
             let Some(node) = nodes.get(k) else {
                 unreachable!()
             };
-            addresses.note_node(node)?;
+            let Ok(()) = addresses.note_node(node) else {
+                return Err(OutOfMemory);
+            };
         }
         Ok(addresses)
     }
@@ -84,7 +88,9 @@ impl Addresses {
         let mut k = code.length();
         while k > 0 {
             k -= 1;
-            self.note_instr(k, code.get(k).instr())?;
+            let Ok(()) = self.note_instr(k, code.get(k).instr()) else {
+                return Err(OutOfMemory);
+            };
         }
         Ok(())
     }
@@ -122,7 +128,9 @@ impl Addresses {
     fn put(&mut self, place: Place, address: u32) -> Result<(), OutOfMemory>
         ensures { OnOk result (self.new ≡ insert self.old place address) }
     {
-        self.addresses.insert(place, address)?;
+        let Ok(_) = self.addresses.insert(place, address) else {
+            return Err(OutOfMemory);
+        };
         Ok(())
     }
 }

@@ -101,9 +101,13 @@ impl<W: Work> Block<W> {
         ensures uncounted { OnErr result (CountsNothing (W.counts work.old) (W.counts work.new)) }
     {
         if self.list.len() >= MOST_INSTRS {
+            drop(instr);
             return Err(OutOfMemory);
         }
-        self.list.reserve(1)?;
+        let Ok(()) = self.list.reserve(1) else {
+            drop(instr);
+            return Err(OutOfMemory);
+        };
         work.emitted();
         self.list.push_reserved(Emitted {
             instr,

@@ -80,8 +80,12 @@ fn maps_of<W>(
         ≡ from_entries (flat_map node_address nodes.now ++ addresses_in 0 code.now)) }
     ensures spans { IfOk result (λ maps. maps.1 ≡ from_entries (flat_map span_by_slot nodes.now)) }
 {
-    let addresses = Addresses::of(alloc, nodes, code)?;
-    let spans = Spans::of(alloc, nodes)?;
+    let Ok(addresses) = Addresses::of(alloc, nodes, code) else {
+        return Err(OutOfMemory);
+    };
+    let Ok(spans) = Spans::of(alloc, nodes) else {
+        return Err(OutOfMemory);
+    };
     Ok((addresses, spans))
 }
 
@@ -110,12 +114,21 @@ fn lay_program<W: Work, M: Marked, D: Scope>(
         (W.counts work.old) (W.counts work.new) }
 {
     items_are_nodes();
-    let mut lengths = Lengths::of(alloc, tree, marks, scope, work)?;
+    let Ok(mut lengths) = Lengths::of(alloc, tree, marks, scope, work) else {
+        return Err(OutOfMemory);
+    };
     let mut k = 0;
     while let Some(item) = tree.node(&path_of_item(k)) {
-        headings.note(item, laid.length())?;
-        laid.lay_node(alloc, item, marks, scope, &mut lengths, work)?;
+        let Ok(()) = headings.note(item, laid.length()) else {
+            drop(lengths);
+            return Err(OutOfMemory);
+        };
+        let Ok(()) = laid.lay_node(alloc, item, marks, scope, &mut lengths, work) else {
+            drop(lengths);
+            return Err(OutOfMemory);
+        };
         k += 1;
     }
+    drop(lengths);
     Ok(())
 }

@@ -6,7 +6,6 @@ ghost use Rattle.plcs_code.specs.Gen.{heading_by_name};
 ghost use Rattle.plcs_code.specs.Private.CodeMaps.{with_first, with_firsts};
 
 use crate::heading_entry::HeadingEntry;
-use crate::names::name_of;
 use indexmap::IndexMap;
 use plcs_base::{Name, OutOfMemory};
 use std::alloc::Global;
@@ -54,7 +53,7 @@ impl Headings {
             return Ok(());
         }
         let slot = node.slot();
-        self.put(name_of(name), HeadingEntry { address, slot })
+        self.put(name.copy(), HeadingEntry { address, slot })
     }
 
     /// What code knows of the effective heading of the name, or `None` where none has it.
@@ -74,7 +73,9 @@ impl Headings {
         if let Some(_) = self.entries.get(&name) {
             return Ok(());
         }
-        self.entries.insert(name, entry)?;
+        let Ok(_) = self.entries.insert(name, entry) else {
+            return Err(OutOfMemory);
+        };
         Ok(())
     }
 }

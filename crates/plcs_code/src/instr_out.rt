@@ -7,7 +7,6 @@ ghost use Rattle.plcs_code.specs.PlainInstr.{PlainInstr, plain_instr};
 use crate::block::Block;
 use crate::instr::Instr;
 use crate::limit::MOST_INSTRS;
-use crate::names::text_of;
 use plcs_base::{OutOfMemory, TextValue, Work};
 use std::alloc::Global;
 use std::marker::Model;
@@ -85,6 +84,18 @@ impl<W> Draft<W> {
     {
         self.block
     }
+
+    /// The instructions of the draft, if memory didn't run out.
+    pub(crate) fn into_whole(self) -> Result<Block<W>, OutOfMemory>
+        ensures instrs { IfOk result (λ block. block ≡ self.instrs) }
+        ensures whole { OnOk result (self.failed ≡ false) }
+    {
+        if self.failed {
+            drop(self);
+            return Err(OutOfMemory);
+        }
+        Ok(self.block)
+    }
 }
 
 impl<W: Work> InstrOut<W> for Draft<W> {
@@ -94,6 +105,7 @@ impl<W: Work> InstrOut<W> for Draft<W> {
 
     fn put(&mut self, instr: Instr, work: &mut W) {
         if self.failed {
+            drop(instr);
             return;
         }
         if let Err(_) = self.block.emit(instr, work) {
@@ -120,7 +132,7 @@ impl<W: Work> InstrOut<W> for Draft<W> {
 fn boxed(alloc: Global, text: &TextValue) -> Result<Box<TextValue>, OutOfMemory>
     ensures { IfOk result (λ copy. box_value copy ≡ text.now) }
 {
-    Ok(Box::new(alloc, text_of(text)?)?)
+    Ok(Box::new(alloc, text.clone()?)?)
 }
 
 /// How many instructions code will have, while they are counted ahead, and whether there are too many.
@@ -185,8 +197,9 @@ impl<W: Work> InstrOut<W> for Tally {
 
     ghost lays = { TalliesOne };
 
-    fn put(&mut self, _instr: Instr, _work: &mut W) {
+    fn put(&mut self, instr: Instr, _work: &mut W) {
         self.raise();
+        drop(instr);
     }
 
     fn refuse(&mut self, _work: &mut W) {

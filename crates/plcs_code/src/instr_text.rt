@@ -1,8 +1,8 @@
 //! Instructions as they are shown.
-ghost use Rattle.std.specs.Prelude.{◌∷◌, [], ◌++◌, codes, decimal};
+ghost use Rattle.std.specs.Prelude.{◌≡◌, ◌∷◌, [], codes, decimal, drop, get_or, length};
 ghost use Rattle.std.specs.Fmt.{signed_decimal};
 ghost use Rattle.plcs_base.specs.Put.{PutsAll};
-ghost use Rattle.plcs_code.specs.InstrText.{instr_text, spaced, type_text};
+ghost use Rattle.plcs_code.specs.InstrText.{instr_text, instr_words, spaced, type_text};
 ghost use Rattle.plcs_code.specs.PlainInstr.{plain_instr};
 
 use crate::instr::Instr;
@@ -16,103 +16,139 @@ use plcs_grammar::{put_bit, put_decimal, put_number, put_quoted};
 pub fn show_instr<O: ByteOut>(instr: &Instr, out: &mut O)
     ensures { PutsAll O.puts out.old (instr_text (plain_instr instr.now)) out.new }
 {
+    put_bytes(word(instr), out);
+    put_operands(instr, out);
+}
+
+/// The word with which the text of an instruction begins.
+fn word(instr: &Instr) -> &'static [u8]
+    ensures { result.now ≡ get_or (instr_words (plain_instr instr.now)) 0 [] }
+{
     match instr {
-        Instr::At(place) => {
-            put_numbered(b"At", place.slot.0, out);
-            put_count(place.point.0 as u32, out);
-        }
-        Instr::SuspendPlaceholder => put_bytes(b"Suspend Placeholder", out),
-        Instr::SuspendMarked => put_bytes(b"Suspend Marked", out),
-        Instr::PushNumber(number) => put_signed(b"Push", *number, out),
-        Instr::PushBit(bit) => {
-            put_bytes(b"Push ", out);
-            put_bit(*bit, out);
-        }
-        Instr::PushText(text) => {
-            put_bytes(b"Push ", out);
-            put_quoted(text.as_bytes(), out);
-        }
-        Instr::Load(name) => put_named(b"Load", name.as_bytes(), out),
-        Instr::LoadAt(name) => put_named(b"LoadAt", name.as_bytes(), out),
-        Instr::Store(name) => put_named(b"Store", name.as_bytes(), out),
-        Instr::StoreAt(name) => put_named(b"StoreAt", name.as_bytes(), out),
-        Instr::Prefix(op) => put_named(b"Prefix", op.sign().bytes(), out),
-        Instr::Infix(op) => put_named(b"Infix", op.sign().bytes(), out),
-        Instr::Builtin(function, number) => {
-            put_named(b"Builtin", function.name(), out);
-            put_count(*number, out);
-        }
-        Instr::Jump(distance) => put_signed(b"Jump", *distance, out),
-        Instr::JumpFalse(distance) => put_signed(b"JumpFalse", *distance, out),
-        Instr::ForEnter(slot, name, distance) => put_loop(
-            b"ForEnter",
-            slot.0,
-            name,
-            *distance,
-            out,
-        ),
-        Instr::ForNext(slot, name, distance) => put_loop(b"ForNext", slot.0, name, *distance, out),
-        Instr::Get(name) => put_named(b"Get", name.as_bytes(), out),
-        Instr::GetAt(name) => put_named(b"GetAt", name.as_bytes(), out),
-        Instr::Put(number) => put_numbered(b"Put", *number, out),
-        Instr::PutSkip(number) => put_numbered(b"PutSkip", *number, out),
-        Instr::Ref(name) => put_named(b"Ref", name.as_bytes(), out),
-        Instr::RefAt(name) => put_named(b"RefAt", name.as_bytes(), out),
-        Instr::Dummy => put_bytes(b"Dummy", out),
-        Instr::Call(name, number) => {
-            put_named(b"Call", name.as_bytes(), out);
-            put_count(*number, out);
-        }
-        Instr::Param(name, ty) => {
-            put_named(b"Param", name.as_bytes(), out);
-            put_type(*ty, out);
-        }
-        Instr::Cell(name, ty, number) => {
-            put_named(b"Cell", name.as_bytes(), out);
-            put_type(*ty, out);
-            put_count(*number, out);
-        }
-        Instr::Leave => put_bytes(b"Leave", out),
+        Instr::At(_) => b"At",
+        Instr::SuspendPlaceholder => b"Suspend",
+        Instr::SuspendMarked => b"Suspend",
+        Instr::PushNumber(_) => b"Push",
+        Instr::PushBit(_) => b"Push",
+        Instr::PushText(_) => b"Push",
+        Instr::Load(_) => b"Load",
+        Instr::LoadAt(_) => b"LoadAt",
+        Instr::Store(_) => b"Store",
+        Instr::StoreAt(_) => b"StoreAt",
+        Instr::Prefix(_) => b"Prefix",
+        Instr::Infix(_) => b"Infix",
+        Instr::Builtin(_, _) => b"Builtin",
+        Instr::Jump(_) => b"Jump",
+        Instr::JumpFalse(_) => b"JumpFalse",
+        Instr::ForEnter(_, _, _) => b"ForEnter",
+        Instr::ForNext(_, _, _) => b"ForNext",
+        Instr::Get(_) => b"Get",
+        Instr::GetAt(_) => b"GetAt",
+        Instr::Put(_) => b"Put",
+        Instr::PutSkip(_) => b"PutSkip",
+        Instr::Ref(_) => b"Ref",
+        Instr::RefAt(_) => b"RefAt",
+        Instr::Dummy => b"Dummy",
+        Instr::Call(_, _) => b"Call",
+        Instr::Param(_, _) => b"Param",
+        Instr::Cell(_, _, _) => b"Cell",
+        Instr::Leave => b"Leave",
     }
 }
 
-/// Puts the word of an instruction, and an operand that is shown as these bytes.
-fn put_named<O: ByteOut>(word: &[u8], operand: &[u8], out: &mut O)
-    ensures { PutsAll O.puts out.old (word.now ++ (32 ∷ operand.now)) out.new }
+/// Puts the operands of an instruction, each behind a blank: what is behind the word in its text.
+fn put_operands<O: ByteOut>(instr: &Instr, out: &mut O)
+    ensures { let word = get_or (instr_words (plain_instr instr.now)) 0 [] in
+        PutsAll O.puts out.old (drop (length word) (instr_text (plain_instr instr.now))) out.new }
 {
-    put_bytes(word, out);
+    match instr {
+        Instr::At(place) => {
+            put_count(place.slot.0, out);
+            put_count(place.point.0 as u32, out);
+        }
+        Instr::SuspendPlaceholder => put_operand(b"Placeholder", out),
+        Instr::SuspendMarked => put_operand(b"Marked", out),
+        Instr::PushNumber(number) => put_signed(*number, out),
+        Instr::PushBit(bit) => {
+            out.put(b' ');
+            put_bit(*bit, out);
+        }
+        Instr::PushText(text) => {
+            out.put(b' ');
+            put_quoted(text.as_bytes(), out);
+        }
+        Instr::Load(name) => put_name(name, out),
+        Instr::LoadAt(name) => put_name(name, out),
+        Instr::Store(name) => put_name(name, out),
+        Instr::StoreAt(name) => put_name(name, out),
+        Instr::Prefix(op) => put_operand(op.sign().bytes(), out),
+        Instr::Infix(op) => put_operand(op.sign().bytes(), out),
+        Instr::Builtin(function, number) => {
+            put_operand(function.name(), out);
+            put_count(*number, out);
+        }
+        Instr::Jump(distance) => put_signed(*distance, out),
+        Instr::JumpFalse(distance) => put_signed(*distance, out),
+        Instr::ForEnter(slot, name, distance) => put_loop(slot.0, name, *distance, out),
+        Instr::ForNext(slot, name, distance) => put_loop(slot.0, name, *distance, out),
+        Instr::Get(name) => put_name(name, out),
+        Instr::GetAt(name) => put_name(name, out),
+        Instr::Put(number) => put_count(*number, out),
+        Instr::PutSkip(number) => put_count(*number, out),
+        Instr::Ref(name) => put_name(name, out),
+        Instr::RefAt(name) => put_name(name, out),
+        Instr::Dummy => {}
+        Instr::Call(name, number) => {
+            put_name(name, out);
+            put_count(*number, out);
+        }
+        Instr::Param(name, ty) => {
+            put_name(name, out);
+            put_type(*ty, out);
+        }
+        Instr::Cell(name, ty, number) => {
+            put_name(name, out);
+            put_type(*ty, out);
+            put_count(*number, out);
+        }
+        Instr::Leave => {}
+    }
+}
+
+/// Puts an operand of an instruction that is shown as these bytes.
+fn put_operand<O: ByteOut>(operand: &[u8], out: &mut O)
+    ensures { PutsAll O.puts out.old (32 ∷ operand.now) out.new }
+{
     out.put(b' ');
     put_bytes(operand, out);
 }
 
-/// Puts the word of an instruction, and an operand that is a number.
-fn put_numbered<O: ByteOut>(word: &[u8], number: u32, out: &mut O)
-    ensures { PutsAll O.puts out.old (word.now ++ (32 ∷ decimal number)) out.new }
+/// Puts an operand of an instruction that is a name.
+fn put_name<O: ByteOut>(name: &Name, out: &mut O)
+    ensures { PutsAll O.puts out.old (32 ∷ name.now) out.new }
 {
-    put_bytes(word, out);
-    put_count(number, out);
+    put_operand(name.as_bytes(), out);
 }
 
-/// Puts the word of an instruction, and an operand that is a number with a sign.
-fn put_signed<O: ByteOut>(word: &[u8], number: i32, out: &mut O)
-    ensures { PutsAll O.puts out.old (word.now ++ (32 ∷ signed_decimal number)) out.new }
+/// Puts an operand of an instruction that is a number with a sign.
+fn put_signed<O: ByteOut>(number: i32, out: &mut O)
+    ensures { PutsAll O.puts out.old (32 ∷ signed_decimal number) out.new }
 {
-    put_bytes(word, out);
     out.put(b' ');
     put_number(number, out);
 }
 
-/// Puts the word of an instruction of a loop that counts, and its operands.
-fn put_loop<O: ByteOut>(word: &[u8], slot: u32, name: &Name, distance: i32, out: &mut O)
-    ensures { PutsAll O.puts out.old (spaced (word.now ∷ (decimal slot ∷ (name.now ∷
-        (signed_decimal distance ∷ []))))) out.new }
+/// Puts the operands of an instruction of a loop that counts.
+fn put_loop<O: ByteOut>(slot: u32, name: &Name, distance: i32, out: &mut O)
+    ensures { PutsAll O.puts out.old (32 ∷ spaced (decimal slot ∷ (name.now ∷ (signed_decimal distance ∷ []))))
+        out.new }
 {
-    put_numbered(word, slot, out);
-    out.put(b' ');
-    put_signed(name.as_bytes(), distance, out);
+    put_count(slot, out);
+    put_name(name, out);
+    put_signed(distance, out);
 }
 
-/// Puts a further operand of an instruction that is a number.
+/// Puts an operand of an instruction that is a number.
 fn put_count<O: ByteOut>(number: u32, out: &mut O)
     ensures { PutsAll O.puts out.old (32 ∷ decimal number) out.new }
 {
@@ -120,7 +156,7 @@ fn put_count<O: ByteOut>(number: u32, out: &mut O)
     put_decimal(number, out);
 }
 
-/// Puts a further operand of an instruction that is a type.
+/// Puts an operand of an instruction that is a type.
 fn put_type<O: ByteOut>(ty: ItemType, out: &mut O)
     ensures { PutsAll O.puts out.old (32 ∷ type_text ty) out.new }
 {

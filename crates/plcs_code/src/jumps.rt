@@ -11,7 +11,6 @@ ghost use Rattle.plcs_code.specs.Private.PlainJumps.{plain_jumps};
 
 use crate::instr::Instr;
 use crate::instr_out::InstrOut;
-use crate::names::name_of;
 use crate::statement_parts::counter_name;
 use crate::suspension::{first_suspension, suspension};
 use plcs_base::{Marked, Name, Slot, Work};
@@ -185,7 +184,7 @@ fn enter_jump(slot: Slot, counter: Option<&Name>, stopped: bool, ahead: u32) -> 
     let Some(name) = counter else {
         return None;
     };
-    Some(Instr::ForEnter(slot, name_of(name), ahead as i32))
+    Some(Instr::ForEnter(slot, name.copy(), ahead as i32))
 }
 
 /// The instruction for the next iteration of a loop that counts, if its variable is there, and it isn't
@@ -201,7 +200,7 @@ fn iteration_jump(slot: Slot, counter: Option<&Name>, stopped: bool, back: u32) 
     let Some(name) = counter else {
         return None;
     };
-    Some(Instr::ForNext(slot, name_of(name), back_by(back)))
+    Some(Instr::ForNext(slot, name.copy(), back_by(back)))
 }
 
 /// The number of a jump back by so many instructions.

@@ -111,9 +111,16 @@ impl<W: Work> Laid<W> {
         let Some(length) = lengths.next() else {
             unreachable!()
         };
-        let behind = self.lay_head(alloc, node, marks, scope, length, work)?;
-        self.lay_inside(alloc, node, behind.between, marks, scope, lengths, work)?;
-        self.lay_rest(node, marks, behind.back, work)
+        let Ok(behind) = self.lay_head(alloc, node, marks, scope, length, work) else {
+            return Err(OutOfMemory);
+        };
+        match self.lay_inside(alloc, node, behind.between, marks, scope, lengths, work) {
+            Ok(()) => self.lay_rest(node, marks, behind.back, work),
+            Err(OutOfMemory) => {
+                drop(behind.back);
+                Err(OutOfMemory)
+            }
+        }
     }
 
     /// Lays the codes of the nodes inside a node, with a jump behind the first of them.
@@ -148,8 +155,14 @@ impl<W: Work> Laid<W> {
         let mut jump = between;
         let mut k = 0;
         while let Some(child) = node.child(k) {
-            self.lay_node(alloc, child, marks, scope, lengths, work)?;
-            self.lay_jump(jump.take(), work)?;
+            let Ok(()) = self.lay_node(alloc, child, marks, scope, lengths, work) else {
+                drop(jump);
+                return Err(OutOfMemory);
+            };
+            let Ok(()) = self.lay_jump(jump.take(), work) else {
+                drop(jump);
+                return Err(OutOfMemory);
+            };
             k += 1;
         }
         self.lay_jump(jump, work)
@@ -186,7 +199,9 @@ impl<W: Work> Laid<W> {
         ensures counts { EmitsAtMost (length (front (M.marks marks.now) (D.items scope.now) node.now.label lengths))
             (W.counts work.old) (W.counts work.new) }
     {
-        self.begin(node, lengths.whole)?;
+        let Ok(()) = self.begin(node, lengths.whole) else {
+            return Err(OutOfMemory);
+        };
         self.lay_front(alloc, node, marks, scope, lengths, work)
     }
 
@@ -205,7 +220,9 @@ impl<W: Work> Laid<W> {
             start: self.length(),
             length: whole,
         };
-        self.spans.push(span)?;
+        let Ok(()) = self.spans.push(span) else {
+            return Err(OutOfMemory);
+        };
         Ok(())
     }
 
@@ -234,13 +251,22 @@ impl<W: Work> Laid<W> {
         ensures counts { EmitsAtMost (length (front (M.marks marks.now) (D.items scope.now) node.now.label lengths))
             (W.counts work.old) (W.counts work.new) }
     {
-        let before = self.lay_before_by_scope(alloc, node, marks, scope, work)?;
+        let Ok(before) = self.lay_before_by_scope(alloc, node, marks, scope, work) else {
+            return Err(OutOfMemory);
+        };
         let jumps = own_jumps(node, marks, before, lengths.first, lengths.others);
-        self.lay_jump(jumps.ahead, work)?;
-        Ok(JumpsBehind {
+        let behind = JumpsBehind {
             between: jumps.between,
             back: jumps.back,
-        })
+        };
+        match self.lay_jump(jumps.ahead, work) {
+            Ok(()) => Ok(behind),
+            Err(OutOfMemory) => {
+                drop(behind.between);
+                drop(behind.back);
+                Err(OutOfMemory)
+            }
+        }
     }
 
     /// Lays what stands in the own code of a node before the nodes inside it, by the effective items of the program;
@@ -264,8 +290,14 @@ impl<W: Work> Laid<W> {
         ensures counts { EmitsAtMost (length (pieces (M.marks marks.now) (D.items scope.now) node.now.label).before)
             (W.counts work.old) (W.counts work.new) }
     {
-        let items = procedure_items(alloc, scope, node)?;
-        self.lay_before(alloc, node, marks, &items, work)
+        match procedure_items(alloc, scope, node) {
+            Ok(items) => {
+                let laid = self.lay_before(alloc, node, marks, &items, work);
+                drop(items);
+                laid
+            }
+            Err(OutOfMemory) => Err(OutOfMemory),
+        }
     }
 
     /// Lays the code of the program node by node: of this node what stands in its own code before the nodes
@@ -290,7 +322,10 @@ impl<W: Work> Laid<W> {
     {
         let start = self.length();
         lay_before(alloc, node, marks, items, &mut self.draft, work);
-        Ok(self.draft.end()? - start)
+        let Ok(end) = self.draft.end() else {
+            return Err(OutOfMemory);
+        };
+        Ok(end - start)
     }
 
     /// Lays the rest of a node's code in that of the program, behind the nodes inside it, with the jump back.
@@ -311,7 +346,9 @@ impl<W: Work> Laid<W> {
     {
         lay_behind(node, marks, &mut self.draft, work);
         lay_jump(back, &mut self.draft, work);
-        self.draft.end()?;
+        let Ok(_) = self.draft.end() else {
+            return Err(OutOfMemory);
+        };
         Ok(())
     }
 
@@ -324,7 +361,9 @@ impl<W: Work> Laid<W> {
             (W.counts work.new) }
     {
         lay_jump(jump, &mut self.draft, work);
-        self.draft.end()?;
+        let Ok(_) = self.draft.end() else {
+            return Err(OutOfMemory);
+        };
         Ok(())
     }
 }

@@ -7,7 +7,6 @@ ghost use Rattle.plcs_code.specs.Private.LaysAll.{LaysAll};
 
 use crate::instr::Instr;
 use crate::instr_out::InstrOut;
-use crate::names::name_of;
 use plcs_base::{Declared, Name, Work};
 
 /// Lays the instructions that make the cells of parameters, each at its first place in the list.
@@ -46,7 +45,7 @@ fn lay_parameter<W: Work, O: InstrOut<W>>(
         return;
     };
     if item.size == 0 {
-        out.put(Instr::Param(name_of(&item.name), item.ty), work);
+        out.put(Instr::Param(item.name.copy(), item.ty), work);
     }
 }
 
@@ -81,7 +80,7 @@ fn lay_cell<W: Work, O: InstrOut<W>>(item: &Declared, names: &[Name], out: &mut 
     if is_among(&item.name, names) {
         return;
     }
-    out.put(Instr::Cell(name_of(&item.name), item.ty, item.size), work);
+    out.put(Instr::Cell(item.name.copy(), item.ty, item.size), work);
 }
 
 /// Whether a name stands among those of parameters, whose cells are made first.

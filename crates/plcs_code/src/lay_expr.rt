@@ -8,7 +8,6 @@ ghost use Rattle.plcs_code.specs.Private.LaysAll.{LaysAll};
 use crate::instr::Instr;
 use crate::instr_out::InstrOut;
 use crate::limit::MOST_INSTRS;
-use crate::names::name_of;
 use plcs_base::Work;
 use plcs_grammar::{Builtin, Expr, VarRef};
 use std::alloc::Global;
@@ -104,7 +103,7 @@ fn load(variable: &VarRef) -> Instr
     ensures { plain_instr result ≡ variable_instr PlainInstr.load PlainInstr.load_at (plain_var_ref variable.now) }
 {
     match &variable.index {
-        None => Instr::Load(name_of(&variable.name)),
-        Some(_) => Instr::LoadAt(name_of(&variable.name)),
+        None => Instr::Load(variable.name.copy()),
+        Some(_) => Instr::LoadAt(variable.name.copy()),
     }
 }

@@ -10,7 +10,6 @@ use crate::instr::Instr;
 use crate::instr_out::InstrOut;
 use crate::lay_expr::{lay_expr, lay_exprs, lay_index};
 use crate::limit::MOST_INSTRS;
-use crate::names::name_of;
 use plcs_base::{Name, Place, Point, Slot, Work};
 use plcs_grammar::{Expr, Phrase, VarRef};
 use std::alloc::Global;
@@ -88,7 +87,7 @@ fn put_call<W: Work, O: InstrOut<W>>(name: &Name, arguments: usize, out: &mut O,
         out.refuse(work);
         return;
     }
-    out.put(Instr::Call(name_of(name), arguments as u32), work);
+    out.put(Instr::Call(name.copy(), arguments as u32), work);
 }
 
 /// Lays the code of a phrase, the list of variables of the GET in a slot: that of each of its items, which is a
@@ -128,8 +127,8 @@ fn store(variable: &VarRef) -> Instr
     ensures { plain_instr result ≡ variable_instr PlainInstr.store PlainInstr.store_at (plain_var_ref variable.now) }
 {
     match &variable.index {
-        None => Instr::Store(name_of(&variable.name)),
-        Some(_) => Instr::StoreAt(name_of(&variable.name)),
+        None => Instr::Store(variable.name.copy()),
+        Some(_) => Instr::StoreAt(variable.name.copy()),
     }
 }
 
@@ -138,8 +137,8 @@ fn get(variable: &VarRef) -> Instr
     ensures { plain_instr result ≡ variable_instr PlainInstr.get PlainInstr.get_at (plain_var_ref variable.now) }
 {
     match &variable.index {
-        None => Instr::Get(name_of(&variable.name)),
-        Some(_) => Instr::GetAt(name_of(&variable.name)),
+        None => Instr::Get(variable.name.copy()),
+        Some(_) => Instr::GetAt(variable.name.copy()),
     }
 }
 
@@ -149,7 +148,7 @@ fn refer(variable: &VarRef) -> Instr
         (plain_var_ref variable.now) }
 {
     match &variable.index {
-        None => Instr::Ref(name_of(&variable.name)),
-        Some(_) => Instr::RefAt(name_of(&variable.name)),
+        None => Instr::Ref(variable.name.copy()),
+        Some(_) => Instr::RefAt(variable.name.copy()),
     }
 }

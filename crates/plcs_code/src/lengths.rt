@@ -24,7 +24,7 @@ use template_tree::{Node, Tree, items_are_nodes, path_of_item};
 
 /// How long the code of a node is, and how long are the codes inside it: that of the first node, and those of
 /// the others together.
-#[derive(Clone, Copy, Debug, PartialEq, Eq)]
+#[derive(Clone, Copy)]
 pub(crate) struct NodeLength {
     pub(crate) whole: u32,
     pub(crate) first: u32,
@@ -76,8 +76,14 @@ impl Lengths {
             let Some(item) = tree.node(&path_of_item(k)) else {
                 unreachable!()
             };
-            let length = lengths.measure(alloc, item, marks, scope, work)?;
-            let sum = sum_within(length, total)?;
+            let Ok(length) = lengths.measure(alloc, item, marks, scope, work) else {
+                drop(lengths);
+                return Err(OutOfMemory);
+            };
+            let Ok(sum) = sum_within(length, total) else {
+                drop(lengths);
+                return Err(OutOfMemory);
+            };
             total = sum;
         }
         Ok(lengths)
@@ -128,19 +134,31 @@ impl Lengths {
             let Some(child) = node.child(k) else {
                 unreachable!()
             };
-            let behind = sum_within(first, others)?;
-            let length = self.measure(alloc, child, marks, scope, work)?;
+            let Ok(behind) = sum_within(first, others) else {
+                return Err(OutOfMemory);
+            };
+            let Ok(length) = self.measure(alloc, child, marks, scope, work) else {
+                return Err(OutOfMemory);
+            };
             first = length;
             others = behind;
         }
-        let inside = sum_within(first, others)?;
-        let own = own_length(alloc, node, marks, scope, work)?;
-        let whole = sum_within(own, inside)?;
-        self.push(NodeLength {
+        let Ok(inside) = sum_within(first, others) else {
+            return Err(OutOfMemory);
+        };
+        let Ok(own) = own_length(alloc, node, marks, scope, work) else {
+            return Err(OutOfMemory);
+        };
+        let Ok(whole) = sum_within(own, inside) else {
+            return Err(OutOfMemory);
+        };
+        let Ok(()) = self.push(NodeLength {
             whole,
             first,
             others,
-        })?;
+        }) else {
+            return Err(OutOfMemory);
+        };
         Ok(whole)
     }
 
@@ -148,7 +166,9 @@ impl Lengths {
     fn push(&mut self, length: NodeLength) -> Result<(), OutOfMemory>
         ensures { OnOk result (self.new ≡ length ∷ self.old) }
     {
-        self.list.push(length)?;
+        let Ok(()) = self.list.push(length) else {
+            return Err(OutOfMemory);
+        };
         Ok(())
     }
 }
@@ -166,16 +186,18 @@ fn own_length<W: Work, M: Marked, D: Scope>(
     ensures short { IfOk result (λ n. n ≤ most_instrs) }
     ensures uncounted { CountsNothing (W.counts work.old) (W.counts work.new) }
 {
-    let items = procedure_items(alloc, scope, node)?;
+    let Ok(items) = procedure_items(alloc, scope, node) else {
+        return Err(OutOfMemory);
+    };
     let jumps = own_jumps(node, marks, 0, 0, 0);
     let mut tally = Tally::new();
     lay_before(alloc, node, marks, &items, &mut tally, work);
+    drop(items);
     lay_jump(jumps.ahead, &mut tally, work);
     lay_jump(jumps.between, &mut tally, work);
     lay_behind(node, marks, &mut tally, work);
     lay_jump(jumps.back, &mut tally, work);
-    let length = tally.end()?;
-    Ok(length)
+    tally.end()
 }
 
 /// The sum of two lengths of codes that are counted ahead, unless code of that length would be too long.

@@ -22,7 +22,6 @@ mod lay_phrase;
 mod lay_pieces;
 mod lengths;
 mod limit;
-mod names;
 mod node_span;
 mod own_code;
 mod procedure_items;

@@ -18,7 +18,6 @@ use crate::instr_out::Draft;
 use crate::jumps::{Jumps, kind_jumps, lay_jump};
 use crate::lay_before::lay_before;
 use crate::lay_behind::lay_behind;
-use crate::names::name_of;
 use crate::procedure_items::procedure_items;
 use crate::statement_parts::counter_name;
 use crate::suspension::{first_suspension, suspension};
@@ -212,8 +211,7 @@ impl<W: Work> OwnCode<W> {
             first,
             others,
         );
-        let blocks = jump_blocks(alloc, jumps, work)?;
-        Ok(blocks)
+        jump_blocks(alloc, jumps, work)
     }
 
     /// The variable with which the node counts, if its own code keeps one.
@@ -270,7 +268,7 @@ fn copy_of(name: Option<&Name>) -> Option<Name>
     ensures { result ≡ option_map (λ other. other.now) name.entry }
 {
     match name {
-        Some(name) => Some(name_of(name)),
+        Some(name) => Some(name.copy()),
         None => None,
     }
 }
@@ -293,9 +291,16 @@ fn own_blocks<W: Work, M: Marked, D: Scope>(
     ensures counts { let pieces = pieces (M.marks marks.now) (D.items scope.now) node.now.label in
         EmitsAtMost (length pieces.before + length pieces.behind) (W.counts work.old) (W.counts work.new) }
 {
-    let before = block_before_by_scope(alloc, node, marks, scope, work)?;
-    let behind = block_behind(alloc, node, marks, work)?;
-    Ok(OwnBlocks { before, behind })
+    let Ok(before) = block_before_by_scope(alloc, node, marks, scope, work) else {
+        return Err(OutOfMemory);
+    };
+    match block_behind(alloc, node, marks, work) {
+        Ok(behind) => Ok(OwnBlocks { before, behind }),
+        Err(OutOfMemory) => {
+            drop(before);
+            Err(OutOfMemory)
+        }
+    }
 }
 
 /// The block of what stands in the own code of a node before the codes of the nodes inside it, by the effective items
@@ -315,8 +320,14 @@ fn block_before_by_scope<W: Work, M: Marked, D: Scope>(
     ensures counts { EmitsAtMost (length (pieces (M.marks marks.now) (D.items scope.now) node.now.label).before)
         (W.counts work.old) (W.counts work.new) }
 {
-    let items = procedure_items(alloc, scope, node)?;
-    block_before(alloc, node, marks, &items, work)
+    match procedure_items(alloc, scope, node) {
+        Ok(items) => {
+            let block = block_before(alloc, node, marks, &items, work);
+            drop(items);
+            block
+        }
+        Err(OutOfMemory) => Err(OutOfMemory),
+    }
 }
 
 /// The block of what stands in the own code of a node before the codes of the nodes inside it.
@@ -336,8 +347,7 @@ fn block_before<W: Work, M: Marked>(
 {
     let mut draft = Draft::new(alloc);
     lay_before(alloc, node, marks, items, &mut draft, work);
-    draft.end()?;
-    Ok(draft.into_block())
+    draft.into_whole()
 }
 
 /// The block of what stands in the own code of a node behind the codes of the nodes inside it.
@@ -355,8 +365,7 @@ fn block_behind<W: Work, M: Marked>(
 {
     let mut draft = Draft::new(alloc);
     lay_behind(node, marks, &mut draft, work);
-    draft.end()?;
-    Ok(draft.into_block())
+    draft.into_whole()
 }
 
 /// The jumps of own code, each a block. They are emitted.
@@ -376,9 +385,21 @@ fn jump_blocks<W: Work>(
         + (length (option_to_list plain.between) + length (option_to_list plain.back)))
         (W.counts work.old) (W.counts work.new) }
 {
-    let ahead = jump_block(alloc, jumps.ahead, work)?;
-    let between = jump_block(alloc, jumps.between, work)?;
-    let back = jump_block(alloc, jumps.back, work)?;
+    let Ok(ahead) = jump_block(alloc, jumps.ahead, work) else {
+        drop(jumps.between);
+        drop(jumps.back);
+        return Err(OutOfMemory);
+    };
+    let Ok(between) = jump_block(alloc, jumps.between, work) else {
+        drop(ahead);
+        drop(jumps.back);
+        return Err(OutOfMemory);
+    };
+    let Ok(back) = jump_block(alloc, jumps.back, work) else {
+        drop(ahead);
+        drop(between);
+        return Err(OutOfMemory);
+    };
     Ok(JumpBlocks {
         ahead,
         between,
@@ -400,6 +421,5 @@ fn jump_block<W: Work>(
 {
     let mut draft = Draft::new(alloc);
     lay_jump(jump, &mut draft, work);
-    draft.end()?;
-    Ok(draft.into_block())
+    draft.into_whole()
 }

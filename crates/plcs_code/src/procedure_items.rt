@@ -20,8 +20,7 @@ pub(crate) fn procedure_items<D: Scope>(
     if !has_items(node.kind()) {
         return Ok(Vec::new(alloc));
     }
-    let items = items_in(alloc, scope, node.slot())?;
-    Ok(items)
+    items_in(alloc, scope, node.slot())
 }
 
 /// The effective items of the procedure in the slot, as the scope tells them, in listing order.
@@ -31,8 +30,12 @@ fn items_in<D: Scope>(alloc: Global, scope: &D, slot: Slot) -> Result<Vec<Declar
     let mut items = Vec::new(alloc);
     let mut k = 0;
     while let Some(item) = scope.declared(slot, k) {
-        items.push(item)?;
+        let Ok(()) = items.push(item) else {
+            drop(items);
+            return Err(OutOfMemory);
+        };
         if k == u32::MAX {
+            drop(items);
             return Err(OutOfMemory);
         }
         k += 1;

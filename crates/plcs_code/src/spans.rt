@@ -41,7 +41,9 @@ impl Spans {
             let Some(node) = nodes.get(k) else {
                 unreachable!()
             };
-            spans.note(node)?;
+            let Ok(()) = spans.note(node) else {
+                return Err(OutOfMemory);
+            };
         }
         Ok(spans)
     }
@@ -79,7 +81,9 @@ impl Spans {
     fn put(&mut self, slot: Slot, start: u32, length: u32) -> Result<(), OutOfMemory>
         ensures { OnOk result (self.new ≡ insert self.old slot.0 (start, length)) }
     {
-        self.spans.insert(slot.0, (start, length))?;
+        let Ok(_) = self.spans.insert(slot.0, (start, length)) else {
+            return Err(OutOfMemory);
+        };
         Ok(())
     }
 }

@@ -116,7 +116,9 @@ fn add_parameter(
     requires new { variable_named name.now cells.old ≡ None }
     ensures { OnOk result (with_argument name.now ty argument.now cells.old ≡ Some cells.new) }
 {
-    let parameter = Variable::scalar(alloc, ty, cell_for(ty, argument))?;
+    let Ok(parameter) = Variable::scalar(alloc, ty, cell_for(ty, argument)) else {
+        return Err(OutOfMemory);
+    };
     cells.add(name.copy(), parameter)
 }
 
@@ -131,7 +133,10 @@ pub(crate) fn add_unset(
     requires new { variable_named name.now cells.old ≡ None }
     ensures { OnOk result (cells.new ≡ cells.old ++ (name.now, new_variable ty size) ∷ []) }
 {
-    cells.add(name.copy(), Variable::unset(alloc, ty, size)?)
+    let Ok(variable) = Variable::unset(alloc, ty, size) else {
+        return Err(OutOfMemory);
+    };
+    cells.add(name.copy(), variable)
 }
 
 /// On the way from the entry of a procedure, the cell that a parameter of the type gets for an argument.

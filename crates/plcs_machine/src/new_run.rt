@@ -93,6 +93,8 @@ fn first_frame<W: Work, C: CodeView<W>>(
     };
     let mut cells = Cells::new(alloc);
     let Ok(place) = first_place(alloc, code, &mut cells, work) else {
+        drop(loops);
+        drop(cells);
         return Err(OutOfMemory);
     };
     Ok(Frame {

@@ -75,6 +75,7 @@ pub(crate) fn infix_value(
 fn infix_numbers(op: InfixOp, a: i32, b: i32) -> Result<Option<Value>, FaultKind>
     ensures { answer_outcome result ≡ infix_value op (Value.Fixed a) (Value.Fixed b) }
 {
+    let order = a.cmp(&b);
     match op {
         InfixOp::Plus => fixed_value(i64::from(a) + i64::from(b)),
         InfixOp::Minus => fixed_value(i64::from(a) - i64::from(b)),
@@ -83,12 +84,12 @@ fn infix_numbers(op: InfixOp, a: i32, b: i32) -> Result<Option<Value>, FaultKind
         InfixOp::Or => Ok(None),
         InfixOp::And => Ok(None),
         InfixOp::Join => Ok(None),
-        InfixOp::Equal => Ok(compared(op, a.cmp(&b))),
-        InfixOp::NotEqual => Ok(compared(op, a.cmp(&b))),
-        InfixOp::Less => Ok(compared(op, a.cmp(&b))),
-        InfixOp::LessEqual => Ok(compared(op, a.cmp(&b))),
-        InfixOp::Greater => Ok(compared(op, a.cmp(&b))),
-        InfixOp::GreaterEqual => Ok(compared(op, a.cmp(&b))),
+        InfixOp::Equal => Ok(compared(op, order)),
+        InfixOp::NotEqual => Ok(compared(op, order)),
+        InfixOp::Less => Ok(compared(op, order)),
+        InfixOp::LessEqual => Ok(compared(op, order)),
+        InfixOp::Greater => Ok(compared(op, order)),
+        InfixOp::GreaterEqual => Ok(compared(op, order)),
     }
 }
 
@@ -106,6 +107,7 @@ fn quotient(a: i32, b: i32) -> Result<Option<Value>, FaultKind>
 fn infix_bits(op: InfixOp, a: bool, b: bool) -> Option<Value>
     ensures { answer_outcome (Ok result) ≡ infix_value op (Value.Bit a) (Value.Bit b) }
 {
+    let order = a.cmp(&b);
     match op {
         InfixOp::Or => Some(Value::Bit(a || b)),
         InfixOp::And => Some(Value::Bit(a && b)),
@@ -114,12 +116,12 @@ fn infix_bits(op: InfixOp, a: bool, b: bool) -> Option<Value>
         InfixOp::Minus => None,
         InfixOp::Times => None,
         InfixOp::Divide => None,
-        InfixOp::Equal => compared(op, a.cmp(&b)),
-        InfixOp::NotEqual => compared(op, a.cmp(&b)),
-        InfixOp::Less => compared(op, a.cmp(&b)),
-        InfixOp::LessEqual => compared(op, a.cmp(&b)),
-        InfixOp::Greater => compared(op, a.cmp(&b)),
-        InfixOp::GreaterEqual => compared(op, a.cmp(&b)),
+        InfixOp::Equal => compared(op, order),
+        InfixOp::NotEqual => compared(op, order),
+        InfixOp::Less => compared(op, order),
+        InfixOp::LessEqual => compared(op, order),
+        InfixOp::Greater => compared(op, order),
+        InfixOp::GreaterEqual => compared(op, order),
     }
 }
 

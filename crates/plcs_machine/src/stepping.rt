@@ -375,6 +375,8 @@ fn enter<W: Work, C: CodeView<W>>(
         &mut cells,
         work,
     ) else {
+        drop(loops);
+        drop(cells);
         return Err(OutOfMemory);
     };
     state.frames.set_place(Place {

@@ -18,6 +18,8 @@ pub mod TakenBack
 pub mod LoopsOfSlots
 -- `Loops::pop`, `Frames::pop`
 pub mod PoppedItems
+-- `Frames::set_cell`, `Frames::push_loop` and what else changes a frame by its number
+pub mod IndexedFrames
 -- `OperandValues`
 pub mod NewestFirst
 -- `what_fits_has_a_step`, `steps_do_allowed_acts`

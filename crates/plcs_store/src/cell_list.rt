@@ -70,7 +70,7 @@ impl CellList {
         requires there { element < length self.old }
         ensures { self.new ≡ slice_set self.old element cell }
     {
-        self.cells[element] = cell;
+        drop(mem::replace(&mut self.cells[element], cell));
     }
 
     /// Puts this into the cell of this number, counted from 0, and gives what was in it; where there is no such
@@ -80,7 +80,10 @@ impl CellList {
         ensures set { self.new ≡ slice_set self.old element cell }
     {
         match self.cells.get_mut(element) {
-            None => None,
+            None => {
+                drop(cell);
+                None
+            }
             Some(old) => Some(mem::replace(old, cell)),
         }
     }

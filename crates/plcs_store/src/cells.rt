@@ -55,8 +55,9 @@ impl Cells {
         requires there { HasElement name.now element self.old }
         ensures { self.new ≡ with_element_named name.now element cell self.old }
     {
-        if let Some(variable) = self.variables.get_mut(name) {
-            variable.cells.set(element, cell);
+        match self.variables.get_mut(name) {
+            None => drop(cell),
+            Some(variable) => variable.cells.set(element, cell),
         }
     }
 
@@ -67,7 +68,10 @@ impl Cells {
         ensures set { self.new ≡ with_element_named name.now element cell self.old }
     {
         match self.variables.get_mut(name) {
-            None => None,
+            None => {
+                drop(cell);
+                None
+            }
             Some(variable) => variable.cells.replace(element, cell),
         }
     }

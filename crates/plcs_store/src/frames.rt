@@ -57,9 +57,11 @@ impl Frames {
         requires room { length self.old < most_frames }
         ensures { self.new ≡ self.old ++ frame ∷ [] }
     {
-        if self.frames.push(frame).is_err() {
+        let pushed = self.frames.push(frame);
+        if pushed.is_err() {
             unreachable!()
         }
+        drop(pushed);
     }
 
     /// Takes the last frame off, or `None` where there is none.
@@ -158,7 +160,10 @@ impl Frames {
         ensures set { self.new ≡ with_cell location.now cell self.old }
     {
         match self.frames.get_mut(usize::from(location.frame)) {
-            None => None,
+            None => {
+                drop(cell);
+                None
+            }
             Some(frame) => {
                 frame
                     .cells

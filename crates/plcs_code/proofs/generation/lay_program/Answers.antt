@@ -42,9 +42,9 @@ loop-item-init g c =
           ∙ ap (λ (f : Forest). with_firsts empty (headings_by_name marks items 0 f)) (sym all);
       lengths = (
         [],
-        c.in_ok-lengths.ensures.lengths ∙ ap (listed_lengths marks items) all ∙ sym (append-nil (listed_lengths marks items (forest (nodes program)))),
+        c.in-Ok.ensures.lengths ∙ ap (listed_lengths marks items) all ∙ sym (append-nil (listed_lengths marks items (forest (nodes program)))),
       );
-      short = subst (λ (f : Forest). sum (node_lengths marks items f) + 2 ≤ most_instrs) all c.in_ok-lengths.ensures.short;
+      short = subst (λ (f : Forest). sum (node_lengths marks items f) + 2 ≤ most_instrs) all c.in-Ok.ensures.short;
       counts = (
         0,
         omega (arith, ap (λ (f : Forest). length (codes_around [] (node_codes marks items f))) all),
@@ -103,8 +103,8 @@ lay_node-requires-clause-lengths g c =
       lengths_behind marks items all k item there c.loop-item.lengths rest c.loop-item.invariant.lengths.1,
     )
 
-pub returns-in_err-note-clause-counts : goal.returns-in_err-note-clause-counts
-returns-in_err-note-clause-counts g c =
+pub returns-in_default-note-clause-counts : goal.returns-in_default-note-clause-counts
+returns-in_default-note-clause-counts g c =
     let marks = g.M.Marked.marks c.args.marks.now in
     let items = g.D.Scope.items c.args.scope.now in
     let program = c.args.tree.now.items in
@@ -121,8 +121,8 @@ returns-in_err-note-clause-counts g c =
     emits_most done (length (codes_joined (node_codes marks items program))) (g.W.Work.counts c.args.work.now) (g.W.Work.counts c.loop-item.work)
     (omega (arith, joined, c.loop-item.invariant.counts.1)) c.loop-item.invariant.counts.2
 
-pub returns-in_err-lay_node-clause-counts : goal.returns-in_err-lay_node-clause-counts
-returns-in_err-lay_node-clause-counts g c =
+pub returns-in_default-lay_node-clause-counts : goal.returns-in_default-lay_node-clause-counts
+returns-in_default-lay_node-clause-counts g c =
     let marks = g.M.Marked.marks c.args.marks.now in
     let items = g.D.Scope.items c.args.scope.now in
     let program = c.args.tree.now.items in
@@ -160,27 +160,27 @@ loop-item-preserved g c =
     let own : List (List ℕ × HeadingEntry) =
     heading_by_name item.label.slot (length c.loop-item.laid.instrs) (heading_of item.label.kind item.label.parts) in
     let noted : c.note.new.self ≡ with_firsts c.loop-item.headings own =
-    c.in_ok-note.ensures
+    c.in-Ok-note.ensures
     ∙ ap (λ (n : ℕ). with_firsts c.loop-item.headings (heading_by_name item.label.slot n (heading_of item.label.kind item.label.parts))) c.length.ensures in
     record {
       within = omega (arith, slice_get_within all k item there);
       laid =
-          item_done marks items all k item there c.loop-item.laid c.lay_node.new.self (with_nodes marks items [] program nothing) c.in_ok-lay_node.ensures.laid
+          item_done marks items all k item there c.loop-item.laid c.lay_node.new.self (with_nodes marks items [] program nothing) c.in-Ok-lay_node.ensures.laid
           c.loop-item.invariant.laid;
       headings =
           heading_done marks items all k item there c.loop-item.laid c.lay_node.new.self c.loop-item.headings c.note.new.self
-          (with_firsts empty (headings_by_name marks items 0 program)) c.in_ok-lay_node.ensures.laid noted c.loop-item.invariant.headings;
+          (with_firsts empty (headings_by_name marks items 0 program)) c.in-Ok-lay_node.ensures.laid noted c.loop-item.invariant.headings;
       lengths = (
         rest,
         same_behind (listed_lengths marks items (forest (item ∷ []))) c.lay_node.new.lengths (listed_lengths marks items left ++ rest)
-            (sym c.in_ok-lay_node.ensures.lengths ∙ lengths_behind marks items all k item there c.loop-item.lengths rest c.loop-item.invariant.lengths.1),
+            (sym c.in-Ok-lay_node.ensures.lengths ∙ lengths_behind marks items all k item there c.loop-item.lengths rest c.loop-item.invariant.lengths.1),
       );
       short = omega (arith, lengths_sum marks items all k item there, c.loop-item.invariant.short);
       counts = (
         done + code,
         omega (arith, total, c.loop-item.invariant.counts.1),
         emits_both done code (done + code) (g.W.Work.counts c.args.work.now) (g.W.Work.counts c.loop-item.work)
-            (g.W.Work.counts c.lay_node.new.work) refl c.loop-item.invariant.counts.2 c.in_ok-lay_node.ensures.counted,
+            (g.W.Work.counts c.lay_node.new.work) refl c.loop-item.invariant.counts.2 c.in-Ok-lay_node.ensures.counted,
       );
     }
 
@@ -192,7 +192,7 @@ returns-clause-laid g c =
     let all = nodes program in
     let none : drop c.loop-item.k all ≡ [] =
     left_none all c.loop-item.k
-    (sym (ap (node_at program) c.path_of_item.ensures ∙ c.items_are_nodes.ensures.found program c.loop-item.k) ∙ sym c.in_default.ensures.found) in
+    (sym (ap (node_at program) c.path_of_item.ensures ∙ c.items_are_nodes.ensures.found program c.loop-item.k) ∙ sym c.in_default-node.ensures.found) in
     all_laid marks items program (forest (drop c.loop-item.k all)) c.loop-item.laid (ap forest none) c.loop-item.invariant.laid
 
 pub returns-clause-headings : goal.returns-clause-headings
@@ -203,7 +203,7 @@ returns-clause-headings g c =
     let all = nodes program in
     let none : drop c.loop-item.k all ≡ [] =
     left_none all c.loop-item.k
-    (sym (ap (node_at program) c.path_of_item.ensures ∙ c.items_are_nodes.ensures.found program c.loop-item.k) ∙ sym c.in_default.ensures.found) in
+    (sym (ap (node_at program) c.path_of_item.ensures ∙ c.items_are_nodes.ensures.found program c.loop-item.k) ∙ sym c.in_default-node.ensures.found) in
     all_noted marks items program (forest (drop c.loop-item.k all)) (length c.loop-item.laid.instrs) c.loop-item.headings (ap forest none)
     c.loop-item.invariant.headings
 
@@ -215,7 +215,7 @@ returns-clause-counted g c =
     let all = nodes program in
     let none : drop c.loop-item.k all ≡ [] =
     left_none all c.loop-item.k
-    (sym (ap (node_at program) c.path_of_item.ensures ∙ c.items_are_nodes.ensures.found program c.loop-item.k) ∙ sym c.in_default.ensures.found) in
+    (sym (ap (node_at program) c.path_of_item.ensures ∙ c.items_are_nodes.ensures.found program c.loop-item.k) ∙ sym c.in_default-node.ensures.found) in
     let left = ap (λ (ns : List PlainNode). length (codes_around [] (node_codes marks items (forest ns)))) none in
     let joined = ap (λ (instrs : List PlainInstr). length instrs) (around_none (node_codes marks items program)) in
     emits_both c.loop-item.invariant.counts.0 0 (length (codes_joined (node_codes marks items program))) (g.W.Work.counts c.args.work.now) (g.W.Work.counts c.loop-item.work)

@@ -13,4 +13,4 @@ pub returns : goal.returns
 returns g c =
     let item = c.args.item.now in
     lays_same (sym (cell_new c.args.names.now item (sym c.is_among.ensures ∙ c.if-is_among.false)))
-    (lays_same (ap (λ n. PlainInstr.cell n item.ty item.size ∷ []) c.name_of.ensures) (lays_one c.put.ensures))
+    (lays_same (ap (λ n. PlainInstr.cell n item.ty item.size ∷ []) c.copy.ensures) (lays_one c.put.ensures))

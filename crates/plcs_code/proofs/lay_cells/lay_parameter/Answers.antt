@@ -25,7 +25,7 @@ returns-then-item-eq0 g c =
     (sym
     (parameter_new c.args.items.now c.args.earlier.now c.args.name.now (Some item) (sym c.is_among.ensures ∙ c.if-is_among.false) c.in-Some.ensures
     ∙ ap (λ b. if b then (PlainInstr.parameter item.name item.ty ∷ []) else []) scalar))
-    (lays_same (ap (λ n. PlainInstr.parameter n item.ty ∷ []) c.name_of.ensures) (lays_one c.put.ensures))
+    (lays_same (ap (λ n. PlainInstr.parameter n item.ty ∷ []) c.copy.ensures) (lays_one c.put.ensures))
 
 pub returns-else-item-eq0 : goal.returns-else-item-eq0
 returns-else-item-eq0 g c =

@@ -7,4 +7,4 @@ pub returns-then-arguments-gt-MOST_INSTRS : goal.returns-then-arguments-gt-MOST_
 returns-then-arguments-gt-MOST_INSTRS g c = lays_one (c.refuse.ensures _)
 
 pub returns : goal.returns
-returns g c = lays_same (ap (λ n. PlainInstr.call n c.args.arguments ∷ []) c.name_of.ensures) (lays_one c.put.ensures)
+returns g c = lays_same (ap (λ n. PlainInstr.call n c.args.arguments ∷ []) c.copy.ensures) (lays_one c.put.ensures)

@@ -22,7 +22,7 @@ loop-item-preserved g c =
     let there : slice_get all k ≡ Some c.in-Some.item = sym (c.in-Some.ensures ∙ item_listed map slot k) in
     record {
       left =
-          ap (λ items. items ++ drop (k + 1) all) c.in_ok-push.ensures.items
+          ap (λ items. items ++ drop (k + 1) all) c.in-Ok.ensures.items
           ∙ append_assoc c.loop-item.items.items (c.in-Some.item ∷ []) (drop (k + 1) all)
           ∙ ap (λ rest. c.loop-item.items.items ++ rest) (sym (left_with all k c.in-Some.item there))
           ∙ c.loop-item.invariant.left;

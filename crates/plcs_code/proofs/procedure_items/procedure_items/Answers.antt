@@ -3,6 +3,7 @@ use Rattle.template_tree.specs.Programs.Program.{sort_of}
 use Rattle.template_tree.specs.Checks.ProgramMaps.{items_in}
 use Rattle.plcs_code.specs.Pieces.{own_pieces}
 use Rattle.plcs_code.specs.Private.LaidCode.{has_items}
+use Rattle.plcs_code.proofs.Laying.{if_ok_then}
 use Rattle.plcs_code.proofs.ProcedureItems.{itemless}
 use Rattle.plcs_code.proofs.procedure_items.procedure_items.Goals as goal
 
@@ -15,4 +16,5 @@ returns-then-not-has_items g c =
 pub returns : goal.returns
 returns g c =
     let label = c.args.node.now.label in
-    λ marks. ap (λ items. own_pieces marks items label) (c.in_ok-items.ensures ∙ ap (items_in (g.D.Scope.items c.args.scope.now)) c.slot.ensures)
+    if_ok_then c.items_in.result c.items_in.ensures
+    (λ items is marks. ap (λ items. own_pieces marks items label) (is ∙ ap (items_in (g.D.Scope.items c.args.scope.now)) c.slot.ensures))

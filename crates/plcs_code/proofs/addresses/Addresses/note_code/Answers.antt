@@ -25,7 +25,7 @@ loop-k-preserved g c =
     let there : slice_get all (k - 1) ≡ Some instr = sym c.get.ensures ∙ ap Some (sym c.instr.ensures) in
     record {
       noted =
-          c.in_ok-note_instr.ensures
+          c.in-Ok.ensures
           ∙ ap (λ (m : AddressMap). with_all (address_by_place (k - 1) instr) m) c.loop-k.invariant.noted
           ∙ sym (all_both (address_by_place (k - 1) instr) (addresses_in k (drop k all)) old)
           ∙ ap (λ n. with_all (address_by_place (k - 1) instr ++ addresses_in n (drop n all)) old) (sym next)

@@ -16,7 +16,7 @@ loop-k-init g c =
     let code = addresses_in 0 c.args.code.now in
     record {
       noted =
-          c.in_ok-note_code.ensures
+          c.in-Ok.ensures
           ∙ ap (λ (m : AddressMap). with_all code m) c.new-addresses.ensures
           ∙ all_before code []
           ∙ ap (λ es. let m : AddressMap = from_entries es in m) (append-nil code)
@@ -34,7 +34,7 @@ loop-k-preserved g c =
     let inside : k - 1 < length all = omega (arith, c.loop-k-test.true, c.loop-k.invariant.within) in
     record {
       noted =
-          c.in_ok-note_node.ensures
+          c.in-Ok-note_node.ensures
           ∙ ap (λ (m : AddressMap). with_all own m) c.loop-k.invariant.noted
           ∙ all_before own (flat_map node_address (drop k all) ++ code)
           ∙ ap (λ es. let m : AddressMap = from_entries es in m) (sym (append_assoc own (flat_map node_address (drop k all)) code))
@@ -53,4 +53,4 @@ pub unreachable-requires : goal.unreachable-requires
 unreachable-requires g c =
     let all = c.args.nodes.now in
     let inside : c.loop-k.k - 1 < length all = omega (arith, c.loop-k-test.true, c.loop-k.invariant.within) in
-    not_from_Decides (ltb (c.loop-k.k - 1) (length all)) (Decides-ltb (c.loop-k.k - 1) (length all)) (sym c.in_default.ensures.lookup.0) inside
+    not_from_Decides (ltb (c.loop-k.k - 1) (length all)) (Decides-ltb (c.loop-k.k - 1) (length all)) (sym c.in_default-get.ensures.lookup.0) inside

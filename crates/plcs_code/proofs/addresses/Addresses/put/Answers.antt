@@ -9,4 +9,4 @@ pub returns : goal.returns
 returns c =
     subst (λ (m : AddressMap). from_entries c.insert.new.self.entries ≡ insert m c.args.place c.args.address) c.self.view_is
     (put places_total places_differ place_test place_ties c.args.place c.args.address c.self.inside.addresses.entries
-    c.insert.new.self.entries (λ q. c.in_ok-insert.ensures.updates.0 q))
+    c.insert.new.self.entries (λ q. c.in-Ok.ensures.updates.0 q))

@@ -24,5 +24,5 @@ returns c =
     ∙ ap (λ (m : EntryMap). get m c.args.name) c.self.view_is in
     subst (λ (m : EntryMap). from_entries c.insert.new.self.entries ≡ insert m c.args.name c.args.entry) c.self.view_is
     (put names_total names_differ bytes_eq name_ties c.args.name c.args.entry c.self.inside.entries.entries
-    c.insert.new.self.entries (λ q. c.in_ok-insert.ensures.updates.0 q))
+    c.insert.new.self.entries (λ q. c.in-Ok.ensures.updates.0 q))
     ∙ ap (λ o. cond (is_some o) old (insert old c.args.name c.args.entry)) none

@@ -21,8 +21,8 @@ use Rattle.plcs_code.proofs.laid.Laid.+lay_node.Goals as goal
 
 -- ---- a node
 
-pub lay_node-returns-in_err-behind-clause-counts : goal.lay_node-returns-in_err-behind-clause-counts
-lay_node-returns-in_err-behind-clause-counts g t c =
+pub lay_node-returns-in_default-lay_head-clause-counts : goal.lay_node-returns-in_default-lay_head-clause-counts
+lay_node-returns-in_default-lay_head-clause-counts g t c =
     let marks = g.M.Marked.marks c.args.marks.now in
     let items = g.D.Scope.items c.args.scope.now in
     let label = c.args.node.now.label in
@@ -32,8 +32,8 @@ lay_node-returns-in_err-behind-clause-counts g t c =
     length_is marks items label inner taken c.args.lengths.now c.next.new.self c.requires.lengths.0 c.in-Some.ensures.next c.requires.lengths.1 in
     front_broke marks items label inner taken is (g.W.Work.counts c.args.work.now) (g.W.Work.counts c.lay_head.new.work) c.lay_head.ensures.counts
 
-pub lay_node-returns-in_err-lay_inside-clause-counts : goal.lay_node-returns-in_err-lay_inside-clause-counts
-lay_node-returns-in_err-lay_inside-clause-counts g t c =
+pub lay_node-returns-in-Err-clause-counts : goal.lay_node-returns-in-Err-clause-counts
+lay_node-returns-in-Err-clause-counts g t c =
     let marks = g.M.Marked.marks c.args.marks.now in
     let items = g.D.Scope.items c.args.scope.now in
     let label = c.args.node.now.label in
@@ -41,14 +41,14 @@ lay_node-returns-in_err-lay_inside-clause-counts g t c =
     let taken = c.in-Some.length in
     let is =
     length_is marks items label inner taken c.args.lengths.now c.next.new.self c.requires.lengths.0 c.in-Some.ensures.next c.requires.lengths.1 in
-    let behind = c.in_ok-behind.behind in
+    let behind = c.in-Ok.behind in
     let between = option_map plain_instr behind.between in
     let back = option_map plain_instr behind.back in
-    inside_broke marks items label inner taken is between back c.in_ok-behind.ensures.between c.in_ok-behind.ensures.back (g.W.Work.counts c.args.work.now) (g.W.Work.counts c.lay_head.new.work) c.in_ok-behind.ensures.counted
+    inside_broke marks items label inner taken is between back c.in-Ok.ensures.between c.in-Ok.ensures.back (g.W.Work.counts c.args.work.now) (g.W.Work.counts c.lay_head.new.work) c.in-Ok.ensures.counted
     (g.W.Work.counts c.lay_inside.new.work) c.lay_inside.ensures.counts
 
-pub lay_node-returns-clause-laid : goal.lay_node-returns-clause-laid
-lay_node-returns-clause-laid g t c =
+pub lay_node-returns-in-Ok-lay_inside-clause-laid : goal.lay_node-returns-in-Ok-lay_inside-clause-laid
+lay_node-returns-in-Ok-lay_inside-clause-laid g t c =
     let marks = g.M.Marked.marks c.args.marks.now in
     let items = g.D.Scope.items c.args.scope.now in
     let label = c.args.node.now.label in
@@ -56,17 +56,17 @@ lay_node-returns-clause-laid g t c =
     let taken = c.in-Some.length in
     let is =
     length_is marks items label inner taken c.args.lengths.now c.next.new.self c.requires.lengths.0 c.in-Some.ensures.next c.requires.lengths.1 in
-    let behind = c.in_ok-behind.behind in
+    let behind = c.in-Ok.behind in
     let between = option_map plain_instr behind.between in
     let back = option_map plain_instr behind.back in
     let span : NodeSpan =
     record { slot = record { 0 = label.slot }; kind = label.kind; start = length c.args.self.now.instrs; length = taken.whole } in
     ok_then c.lay_rest.result
-    (node_done marks items label inner taken is between back c.in_ok-behind.ensures.between c.in_ok-behind.ensures.back c.args.self.now (with_span span c.args.self.now) c.lay_head.new.self c.lay_inside.new.self c.lay_rest.new.self
-    refl c.in_ok-behind.ensures.laid c.in_ok-lay_inside.ensures.laid) c.lay_rest.ensures.laid
+    (node_done marks items label inner taken is between back c.in-Ok.ensures.between c.in-Ok.ensures.back c.args.self.now (with_span span c.args.self.now) c.lay_head.new.self c.lay_inside.new.self c.lay_rest.new.self
+    refl c.in-Ok.ensures.laid c.in-Ok-lay_inside.ensures.laid) c.lay_rest.ensures.laid
 
-pub lay_node-returns-clause-counted : goal.lay_node-returns-clause-counted
-lay_node-returns-clause-counted g t c =
+pub lay_node-returns-in-Ok-lay_inside-clause-counted : goal.lay_node-returns-in-Ok-lay_inside-clause-counted
+lay_node-returns-in-Ok-lay_inside-clause-counted g t c =
     let marks = g.M.Marked.marks c.args.marks.now in
     let items = g.D.Scope.items c.args.scope.now in
     let label = c.args.node.now.label in
@@ -74,15 +74,15 @@ lay_node-returns-clause-counted g t c =
     let taken = c.in-Some.length in
     let is =
     length_is marks items label inner taken c.args.lengths.now c.next.new.self c.requires.lengths.0 c.in-Some.ensures.next c.requires.lengths.1 in
-    let behind = c.in_ok-behind.behind in
+    let behind = c.in-Ok.behind in
     let between = option_map plain_instr behind.between in
     let back = option_map plain_instr behind.back in
     ok_then c.lay_rest.result
-    (node_counted marks items label inner taken is between back c.in_ok-behind.ensures.between c.in_ok-behind.ensures.back (g.W.Work.counts c.args.work.now) (g.W.Work.counts c.lay_head.new.work) c.in_ok-behind.ensures.counted
-    (g.W.Work.counts c.lay_inside.new.work) (g.W.Work.counts c.lay_rest.new.work) c.in_ok-lay_inside.ensures.counted) c.lay_rest.ensures.counted
+    (node_counted marks items label inner taken is between back c.in-Ok.ensures.between c.in-Ok.ensures.back (g.W.Work.counts c.args.work.now) (g.W.Work.counts c.lay_head.new.work) c.in-Ok.ensures.counted
+    (g.W.Work.counts c.lay_inside.new.work) (g.W.Work.counts c.lay_rest.new.work) c.in-Ok-lay_inside.ensures.counted) c.lay_rest.ensures.counted
 
-pub lay_node-returns-clause-counts : goal.lay_node-returns-clause-counts
-lay_node-returns-clause-counts g t c =
+pub lay_node-returns-in-Ok-lay_inside-clause-counts : goal.lay_node-returns-in-Ok-lay_inside-clause-counts
+lay_node-returns-in-Ok-lay_inside-clause-counts g t c =
     let marks = g.M.Marked.marks c.args.marks.now in
     let items = g.D.Scope.items c.args.scope.now in
     let label = c.args.node.now.label in
@@ -90,11 +90,11 @@ lay_node-returns-clause-counts g t c =
     let taken = c.in-Some.length in
     let is =
     length_is marks items label inner taken c.args.lengths.now c.next.new.self c.requires.lengths.0 c.in-Some.ensures.next c.requires.lengths.1 in
-    let behind = c.in_ok-behind.behind in
+    let behind = c.in-Ok.behind in
     let between = option_map plain_instr behind.between in
     let back = option_map plain_instr behind.back in
-    rest_broke marks items label inner taken is between back c.in_ok-behind.ensures.between c.in_ok-behind.ensures.back (g.W.Work.counts c.args.work.now) (g.W.Work.counts c.lay_head.new.work) c.in_ok-behind.ensures.counted
-    (g.W.Work.counts c.lay_inside.new.work) (g.W.Work.counts c.lay_rest.new.work) c.in_ok-lay_inside.ensures.counted c.lay_rest.ensures.counts
+    rest_broke marks items label inner taken is between back c.in-Ok.ensures.between c.in-Ok.ensures.back (g.W.Work.counts c.args.work.now) (g.W.Work.counts c.lay_head.new.work) c.in-Ok.ensures.counted
+    (g.W.Work.counts c.lay_inside.new.work) (g.W.Work.counts c.lay_rest.new.work) c.in-Ok-lay_inside.ensures.counted c.lay_rest.ensures.counts
 
 -- ---- nodes in turn
 
@@ -161,8 +161,8 @@ lay_inside-loop-child-smaller g t c =
     let within = slice_get_within (nodes c.args.node.now.inner) c.loop-child.k c.in-Some.child.now (sym c.in-Some.ensures) in
     omega (arith, within)
 
-pub lay_inside-returns-in_err-lay_node-clause-counts : goal.lay_inside-returns-in_err-lay_node-clause-counts
-lay_inside-returns-in_err-lay_node-clause-counts g t c =
+pub lay_inside-returns-in_default-lay_node-clause-counts : goal.lay_inside-returns-in_default-lay_node-clause-counts
+lay_inside-returns-in_default-lay_node-clause-counts g t c =
     let marks = g.M.Marked.marks c.args.marks.now in
     let items = g.D.Scope.items c.args.scope.now in
     let inner = c.args.node.now.inner in
@@ -176,8 +176,8 @@ lay_inside-returns-in_err-lay_node-clause-counts g t c =
     (g.W.Work.counts c.args.work.now) (g.W.Work.counts c.loop-child.work) (g.W.Work.counts c.lay_node.new.work)
     (omega (arith, total, c.loop-child.invariant.counts.1)) c.loop-child.invariant.counts.2 c.lay_node.ensures.counts
 
-pub lay_inside-returns-in_err-lay_jump-clause-counts : goal.lay_inside-returns-in_err-lay_jump-clause-counts
-lay_inside-returns-in_err-lay_jump-clause-counts g t c =
+pub lay_inside-returns-in_default-lay_jump-clause-counts : goal.lay_inside-returns-in_default-lay_jump-clause-counts
+lay_inside-returns-in_default-lay_jump-clause-counts g t c =
     let marks = g.M.Marked.marks c.args.marks.now in
     let items = g.D.Scope.items c.args.scope.now in
     let inner = c.args.node.now.inner in
@@ -194,7 +194,7 @@ lay_inside-returns-in_err-lay_jump-clause-counts g t c =
     (g.W.Work.counts c.args.work.now) (g.W.Work.counts c.lay_node.new.work) (g.W.Work.counts c.lay_jump.new.work)
     (omega (arith, total, same, c.loop-child.invariant.counts.1))
     (emits_both done code (done + code) (g.W.Work.counts c.args.work.now) (g.W.Work.counts c.loop-child.work) (g.W.Work.counts c.lay_node.new.work)
-    refl c.loop-child.invariant.counts.2 c.in_ok-lay_node.ensures.counted)
+    refl c.loop-child.invariant.counts.2 c.in-Ok.ensures.counted)
     c.lay_jump.ensures.counts
 
 pub lay_inside-loop-child-preserved : goal.lay_inside-loop-child-preserved
@@ -223,14 +223,14 @@ lay_inside-loop-child-preserved g t c =
       short = omega (arith, lengths_sum marks items all k child there, c.loop-child.invariant.short);
       laid =
           ap (λ (j : Option Instr). with_nodes marks items (option_to_list (option_map plain_instr j)) left c.lay_jump.new.self) c.take.ensures.after
-          ∙ nodes_done marks items all k child there between c.loop-child.self c.lay_node.new.self c.lay_jump.new.self c.in_ok-lay_node.ensures.laid
-          (c.in_ok-lay_jump.ensures.laid
+          ∙ nodes_done marks items all k child there between c.loop-child.self c.lay_node.new.self c.lay_jump.new.self c.in-Ok.ensures.laid
+          (c.in-Ok-lay_jump.ensures.laid
           ∙ ap (λ (j : Option Instr). with_instrs (option_to_list (option_map plain_instr j)) c.lay_node.new.self) c.take.ensures.value)
           ∙ c.loop-child.invariant.laid;
       lengths = (
         rest,
         same_behind (listed_lengths marks items (forest (child ∷ []))) c.lay_node.new.lengths (listed_lengths marks items left ++ rest)
-            (sym c.in_ok-lay_node.ensures.lengths ∙ lengths_behind marks items all k child there c.loop-child.lengths rest c.loop-child.invariant.lengths.1),
+            (sym c.in-Ok.ensures.lengths ∙ lengths_behind marks items all k child there c.loop-child.lengths rest c.loop-child.invariant.lengths.1),
         c.loop-child.invariant.lengths.2,
       );
       counts = (
@@ -239,8 +239,8 @@ lay_inside-loop-child-preserved g t c =
         emits_both (done + code) jump (done + code + jump)
             (g.W.Work.counts c.args.work.now) (g.W.Work.counts c.lay_node.new.work) (g.W.Work.counts c.lay_jump.new.work) refl
             (emits_both done code (done + code) (g.W.Work.counts c.args.work.now) (g.W.Work.counts c.loop-child.work) (g.W.Work.counts c.lay_node.new.work)
-            refl c.loop-child.invariant.counts.2 c.in_ok-lay_node.ensures.counted)
-            c.in_ok-lay_jump.ensures.counted,
+            refl c.loop-child.invariant.counts.2 c.in-Ok.ensures.counted)
+            c.in-Ok-lay_jump.ensures.counted,
       );
     }
 

@@ -6,27 +6,27 @@ use Rattle.plcs_code.specs.Private.LaidCode.{PlainLaid, with_instrs}
 use Rattle.plcs_code.proofs.Laying.{drafted}
 use Rattle.plcs_code.proofs.laid.Laid.lay_before.Goals as goal
 
-pub returns-in_err-end-clause-counts : goal.returns-in_err-end-clause-counts
-returns-in_err-end-clause-counts g c = (drafted c.lay_before.ensures).counts
+pub returns-in_default-clause-counts : goal.returns-in_default-clause-counts
+returns-in_default-clause-counts g c = (drafted c.lay_before.ensures).counts
 
 pub overflow_sub-result : goal.overflow_sub-result
 overflow_sub-result g c =
     let code = (own_pieces (g.M.Marked.marks c.args.marks.now) c.args.items.now c.args.node.now.label).before in
     let was = ap (λ (laid : PlainLaid). length laid.instrs) c.self.view_is in
-    let now = ap (λ (instrs : List PlainInstr). length instrs) ((drafted c.lay_before.ensures).instrs c.in_ok-end.ensures.whole) in
-    omega (arith, was, now, length-append c.self.inside.draft.instrs code, c.length-start.ensures, c.in_ok-end.ensures.length)
+    let now = ap (λ (instrs : List PlainInstr). length instrs) ((drafted c.lay_before.ensures).instrs c.in-Ok.ensures.whole) in
+    omega (arith, was, now, length-append c.self.inside.draft.instrs code, c.length-start.ensures, c.in-Ok.ensures.length)
 
 pub returns-clause-length : goal.returns-clause-length
 returns-clause-length g c =
     let code = (own_pieces (g.M.Marked.marks c.args.marks.now) c.args.items.now c.args.node.now.label).before in
     let was = ap (λ (laid : PlainLaid). length laid.instrs) c.self.view_is in
-    let now = ap (λ (instrs : List PlainInstr). length instrs) ((drafted c.lay_before.ensures).instrs c.in_ok-end.ensures.whole) in
-    omega (arith, was, now, length-append c.self.inside.draft.instrs code, c.length-start.ensures, c.in_ok-end.ensures.length)
+    let now = ap (λ (instrs : List PlainInstr). length instrs) ((drafted c.lay_before.ensures).instrs c.in-Ok.ensures.whole) in
+    omega (arith, was, now, length-append c.self.inside.draft.instrs code, c.length-start.ensures, c.in-Ok.ensures.length)
 
 pub returns-clause-laid : goal.returns-clause-laid
 returns-clause-laid g c =
     ap (λ (instrs : List PlainInstr). let laid : PlainLaid = record { instrs = instrs; spans = c.self.inside.spans.items } in laid)
-    ((drafted c.lay_before.ensures).instrs c.in_ok-end.ensures.whole)
+    ((drafted c.lay_before.ensures).instrs c.in-Ok.ensures.whole)
     ∙ ap (λ (laid : PlainLaid). with_instrs (own_pieces (g.M.Marked.marks c.args.marks.now) c.args.items.now c.args.node.now.label).before laid)
     c.self.view_is
 
@@ -34,4 +34,4 @@ pub returns-clause-counts : goal.returns-clause-counts
 returns-clause-counts g c = (drafted c.lay_before.ensures).counts
 
 pub returns-clause-counted : goal.returns-clause-counted
-returns-clause-counted g c = (drafted c.lay_before.ensures).counted c.in_ok-end.ensures.whole
+returns-clause-counted g c = (drafted c.lay_before.ensures).counted c.in-Ok.ensures.whole

@@ -52,16 +52,16 @@ loop-k-preserved g t c =
     let there : slice_get all k ≡ Some child = sym c.in-Some.ensures in
     let next : k + 1 ≡ c.loop-k.k = omega (arith, c.loop-k-test.true) in
     record {
-      first = first_left marks items all k c.loop-k.k child there next c.in_ok-length.length c.in_ok-length.ensures.length;
+      first = first_left marks items all k c.loop-k.k child there next c.in-Ok-measure.length c.in-Ok-measure.ensures.length;
       others =
-          others_left marks items all k c.loop-k.k child there next c.loop-k.first c.loop-k.others c.in_ok-behind.behind c.loop-k.invariant.first
-          c.loop-k.invariant.others c.in_ok-behind.ensures.sum;
+          others_left marks items all k c.loop-k.k child there next c.loop-k.first c.loop-k.others c.in-Ok.behind c.loop-k.invariant.first
+          c.loop-k.invariant.others c.in-Ok.ensures.sum;
       lengths =
           listed_left marks items all k c.loop-k.k child there next c.args.self.now c.loop-k.self c.measure.new.self c.loop-k.invariant.lengths
-          c.in_ok-length.ensures.lengths;
+          c.in-Ok-measure.ensures.lengths;
       within = omega (arith, c.loop-k.invariant.within);
-      first_short = omega (arith, c.in_ok-length.ensures.short);
-      others_short = omega (arith, c.in_ok-behind.ensures.short);
+      first_short = omega (arith, c.in-Ok-measure.ensures.short);
+      others_short = omega (arith, c.in-Ok.ensures.short);
       uncounted = c.measure.ensures.uncounted ∙ c.loop-k.invariant.uncounted;
     }
 
@@ -81,8 +81,8 @@ returns-clause-length g t c =
     ap (λ k. forest (drop k (nodes node.inner))) none ∙ forest_nodes node.inner in
     let first : c.loop-k.first ≡ first_length lengths = c.loop-k.invariant.first ∙ ap (λ f. first_length (node_lengths marks items f)) inner in
     let others : c.loop-k.others ≡ other_lengths lengths = c.loop-k.invariant.others ∙ ap (λ f. other_lengths (node_lengths marks items f)) inner in
-    let whole : c.in_ok-whole.whole ≡ length_around marks items node.label lengths =
-    omega (arith, first, others, first_others lengths, c.in_ok-inside.ensures.sum, c.in_ok-own.ensures.length, c.in_ok-whole.ensures.sum) in
+    let whole : c.in-Ok-sum_within-2.whole ≡ length_around marks items node.label lengths =
+    omega (arith, first, others, first_others lengths, c.in-Ok-sum_within.ensures.sum, c.in-Ok-own_length.ensures.length, c.in-Ok-sum_within-2.ensures.sum) in
     ap (λ n. n ∷ []) whole
 
 pub returns-clause-lengths : goal.returns-clause-lengths
@@ -96,7 +96,7 @@ returns-clause-lengths g t c =
     ap (λ k. forest (drop k (nodes node.inner))) none ∙ forest_nodes node.inner in
     let first : c.loop-k.first ≡ first_length lengths = c.loop-k.invariant.first ∙ ap (λ f. first_length (node_lengths marks items f)) inner in
     let others : c.loop-k.others ≡ other_lengths lengths = c.loop-k.invariant.others ∙ ap (λ f. other_lengths (node_lengths marks items f)) inner in
-    let whole : c.in_ok-whole.whole ≡ length_around marks items node.label lengths =
-    omega (arith, first, others, first_others lengths, c.in_ok-inside.ensures.sum, c.in_ok-own.ensures.length, c.in_ok-whole.ensures.sum) in
-    listed_more marks items node.label node.inner c.in_ok-whole.whole c.loop-k.first c.loop-k.others c.args.self.now c.loop-k.self c.push.new.self whole first
-    others (c.loop-k.invariant.lengths ∙ ap (λ f. listed_lengths marks items f ++ c.args.self.now) inner) c.in_ok-push.ensures
+    let whole : c.in-Ok-sum_within-2.whole ≡ length_around marks items node.label lengths =
+    omega (arith, first, others, first_others lengths, c.in-Ok-sum_within.ensures.sum, c.in-Ok-own_length.ensures.length, c.in-Ok-sum_within-2.ensures.sum) in
+    listed_more marks items node.label node.inner c.in-Ok-sum_within-2.whole c.loop-k.first c.loop-k.others c.args.self.now c.loop-k.self c.push.new.self whole first
+    others (c.loop-k.invariant.lengths ∙ ap (λ f. listed_lengths marks items f ++ c.args.self.now) inner) c.in-Ok-push.ensures

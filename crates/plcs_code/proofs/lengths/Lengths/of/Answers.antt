@@ -46,11 +46,11 @@ loop-k-preserved g c =
     record {
       lengths =
           listed_left marks items all k c.loop-k.k item there next [] c.loop-k.lengths c.measure.new.self c.loop-k.invariant.lengths
-          c.in_ok-length.ensures.lengths;
+          c.in-Ok.ensures.lengths;
       total =
-          sum_left marks items all k c.loop-k.k item there next c.in_ok-length.length c.loop-k.total c.in_ok-sum.sum c.in_ok-length.ensures.length
-          c.loop-k.invariant.total c.in_ok-sum.ensures.sum;
-      short = c.in_ok-sum.ensures.short;
+          sum_left marks items all k c.loop-k.k item there next c.in-Ok.length c.loop-k.total c.in-Ok-sum_within.sum c.in-Ok.ensures.length
+          c.loop-k.invariant.total c.in-Ok-sum_within.ensures.sum;
+      short = c.in-Ok-sum_within.ensures.short;
       within = omega (arith, c.loop-k.invariant.within);
       uncounted = c.measure.ensures.uncounted ∙ c.loop-k.invariant.uncounted;
     }

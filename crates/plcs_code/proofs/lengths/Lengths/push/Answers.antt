@@ -5,6 +5,6 @@ use Rattle.plcs_code.proofs.lengths.Lengths.push.Goals as goal
 
 pub returns : goal.returns
 returns c =
-    ap reverse c.in_ok-push.ensures.items
+    ap reverse c.in-Ok.ensures.items
     ∙ reverse-append c.self.inside.list.items (c.args.length ∷ [])
     ∙ ap (λ (lengths : List NodeLength). c.args.length ∷ lengths) c.self.view_is

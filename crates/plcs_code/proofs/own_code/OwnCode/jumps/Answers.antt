@@ -4,6 +4,7 @@ use Rattle.plcs_code.specs.Counts.{EmitsAtMost}
 use Rattle.plcs_code.specs.OwnCode.{PlainOwnCode, jumps_around}
 use Rattle.plcs_code.specs.Pieces.{CodeJumps, kind_jumps}
 use Rattle.plcs_code.specs.Private.PlainJumps.{plain_jumps}
+use Rattle.plcs_code.proofs.Laying.{if_ok_then}
 use Rattle.plcs_code.proofs.own_code.OwnCode.jumps.Goals as goal
 
 pub returns-clause-ahead : goal.returns-clause-ahead
@@ -13,7 +14,7 @@ returns-clause-ahead g c =
     let is : plain_jumps c.kind_jumps-jumps.result ≡ jumps_around c.args.self.now c.args.first c.args.others =
     c.kind_jumps-jumps.ensures
     ∙ (λ i. kind_jumps (view i).slot (c.counter.ensures i) (view i).all_stopped (view i).one_stopped (before i) c.args.first c.args.others (view i).kind) in
-    c.in_ok-blocks.ensures.ahead ∙ ap (λ (j : CodeJumps). option_to_list j.ahead) is
+    if_ok_then c.jump_blocks.result c.jump_blocks.ensures.ahead (λ blocks of. of ∙ ap (λ (j : CodeJumps). option_to_list j.ahead) is)
 
 pub returns-clause-between : goal.returns-clause-between
 returns-clause-between g c =
@@ -22,7 +23,7 @@ returns-clause-between g c =
     let is : plain_jumps c.kind_jumps-jumps.result ≡ jumps_around c.args.self.now c.args.first c.args.others =
     c.kind_jumps-jumps.ensures
     ∙ (λ i. kind_jumps (view i).slot (c.counter.ensures i) (view i).all_stopped (view i).one_stopped (before i) c.args.first c.args.others (view i).kind) in
-    c.in_ok-blocks.ensures.between ∙ ap (λ (j : CodeJumps). option_to_list j.between) is
+    if_ok_then c.jump_blocks.result c.jump_blocks.ensures.between (λ blocks of. of ∙ ap (λ (j : CodeJumps). option_to_list j.between) is)
 
 pub returns-clause-back : goal.returns-clause-back
 returns-clause-back g c =
@@ -31,19 +32,7 @@ returns-clause-back g c =
     let is : plain_jumps c.kind_jumps-jumps.result ≡ jumps_around c.args.self.now c.args.first c.args.others =
     c.kind_jumps-jumps.ensures
     ∙ (λ i. kind_jumps (view i).slot (c.counter.ensures i) (view i).all_stopped (view i).one_stopped (before i) c.args.first c.args.others (view i).kind) in
-    c.in_ok-blocks.ensures.back ∙ ap (λ (j : CodeJumps). option_to_list j.back) is
-
-pub returns-in_err-blocks-clause-counts : goal.returns-in_err-blocks-clause-counts
-returns-in_err-blocks-clause-counts g c =
-    let view = c.self.view_is in
-    let before = c.length-before.ensures.length ∙ ap (λ (o : PlainOwnCode). length o.pieces.before) view in
-    let is : plain_jumps c.kind_jumps-jumps.result ≡ jumps_around c.args.self.now c.args.first c.args.others =
-    c.kind_jumps-jumps.ensures
-    ∙ (λ i. kind_jumps (view i).slot (c.counter.ensures i) (view i).all_stopped (view i).one_stopped (before i) c.args.first c.args.others (view i).kind) in
-    subst
-    (λ (j : CodeJumps).
-    EmitsAtMost (length (option_to_list j.ahead) + (length (option_to_list j.between) + length (option_to_list j.back)))
-    (g.W.Work.counts c.args.work.now) (g.W.Work.counts c.jump_blocks.new.work)) is c.jump_blocks.ensures.counts
+    if_ok_then c.jump_blocks.result c.jump_blocks.ensures.back (λ blocks of. of ∙ ap (λ (j : CodeJumps). option_to_list j.back) is)
 
 pub returns-clause-counts : goal.returns-clause-counts
 returns-clause-counts g c =

@@ -24,7 +24,7 @@ loop-k-preserved c =
     let inside : k - 1 < length all = omega (arith, c.loop-k-test.true, c.loop-k.invariant.within) in
     record {
       noted =
-          c.in_ok-note.ensures
+          c.in-Ok.ensures
           ∙ ap (λ (m : SpanMap). with_all (span_by_slot c.in-Some.node.now) m) c.loop-k.invariant.noted
           ∙ all_before (span_by_slot c.in-Some.node.now) (flat_map span_by_slot (drop k all))
           ∙ ap (λ n. let m : SpanMap = from_entries (flat_map span_by_slot (c.in-Some.node.now ∷ drop n all)) in m) (sym next)

@@ -11,4 +11,4 @@ pub returns : goal.returns
 returns c =
     subst (λ (m : SpanMap). from_entries c.insert.new.self.entries ≡ insert m c.args.slot.0 (c.args.start, c.args.length)) c.self.view_is
     (put nat_cmp_total nat_cmp-IsAntisymmetric nat_eq nat_ties c.args.slot.0 (c.args.start, c.args.length) c.self.inside.spans.entries
-    c.insert.new.self.entries (λ q. c.in_ok-insert.ensures.updates.0 q))
+    c.insert.new.self.entries (λ q. c.in-Ok.ensures.updates.0 q))
