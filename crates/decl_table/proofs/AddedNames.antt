@@ -1,5 +1,5 @@
 -- Names gathered, one after the other.
-use Rattle.std.specs.Prelude.{◌≡◌, refl, ℕ, ◌+◌, ◌<◌, Bool, true, false, ◌||◌, if◌then◌else◌, bytes_eq, List, [], ◌∷◌, drop, Option, Some, None}
+use Rattle.std.specs.Prelude.{◌≡◌, refl, ℕ, Bool, true, false, ◌||◌, if◌then◌else◌, bytes_eq, List, ◌∷◌, Option}
 use Rattle.std.specs.List.{list_any}
 use Rattle.std.proofs.Common.{ap, cond, sym, ◌∙◌}
 use Rattle.template_tree.specs.Programs.Program.{sort_of}

@@ -2,17 +2,16 @@
 -- where a node that went or came has a heading of the name, or where the edit is in the procedure that it heads and a
 -- parameter gets another kind.
 use Rattle.std.proofs.Common.{◌≡◌, ℕ, zero, suc, ◌<◌, Bool, true, false, List, [], ◌∷◌, ◌++◌, get_or, length, Option, Some, None, refl, ap, sym, subst, ◌∙◌, ◌⊎◌, inl, inr, arith, true≢false}
-use Rattle.std.specs.Prelude.{◌&&◌, ◌||◌, bytes_eq, Contains, if◌then◌else◌, option_and_then, option_map, slice_get}
+use Rattle.std.specs.Prelude.{◌&&◌, ◌||◌, bytes_eq, Contains, if◌then◌else◌, option_and_then, slice_get}
 use Rattle.std.specs.List.{list_any}
 use Rattle.std.specs.Option.{option_or}
 use Rattle.std.proofs.lemmas.List.Folds.{list_any-append}
-use Rattle.std.proofs.lemmas.Option.{none-some, same_Some}
 use Rattle.std.proofs.lemmas.Slice.Eq.{bytes_eq-Decides}
 use Rattle.plcs_base.specs.declared.declared.Declared.{Declared}
 use Rattle.plcs_base.specs.declared.value.Kind.{Kind}
-use Rattle.template_tree.specs.Checks.Environment.{Heading, Sig, Signature, heading_of, item_named, items_inside, may_be_called, parameter_kind, parameter_kinds, scalar_kind, signature_for, signature_of}
+use Rattle.template_tree.specs.Checks.Environment.{Heading, Sig, Signature, heading_of, item_named, items_inside, may_be_called, parameter_kinds, scalar_kind, signature_for, signature_of}
 use Rattle.template_tree.specs.Programs.PlainTree.{Forest, Label, PlainNode, forest, join, nodes}
-use Rattle.decl_table.proofs.EditedHeadings.{IsDeep, headed}
+use Rattle.decl_table.proofs.EditedHeadings.{IsDeep}
 use Rattle.decl_table.proofs.Gaps.{Gap, IsGapAt, filled}
 
 -- ---- the kinds of parameters

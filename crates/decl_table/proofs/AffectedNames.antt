@@ -1,8 +1,7 @@
 -- The names that an edit affects: those that are bound where it was and, where it is inside a procedure, those of items
 -- that differ, and that of the procedure's heading if a parameter gets another kind.
-use Rattle.std.proofs.Common.{◌≡◌, ◌≢◌, ℕ, zero, suc, Bool, true, false, List, [], ◌∷◌, ◌++◌, Option, Some, None, refl, ap, sym, subst, ◌∙◌, ◌⊎◌, inl, inr, true≢false}
-use Rattle.std.specs.Prelude.{◌&&◌, ◌||◌, bytes_eq, flat_map, if◌then◌else◌, option_and_then, option_map}
-use Rattle.std.specs.List.{list_any}
+use Rattle.std.proofs.Common.{◌≡◌, ◌≢◌, ℕ, zero, suc, Bool, true, false, List, [], ◌∷◌, Option, Some, None, refl, ap, sym, subst, ◌∙◌, ◌⊎◌, inl, inr, true≢false}
+use Rattle.std.specs.Prelude.{◌&&◌, ◌||◌, bytes_eq, flat_map, if◌then◌else◌, option_and_then}
 use Rattle.std.proofs.lemmas.List.Concat.{flat_map-cons}
 use Rattle.std.proofs.lemmas.List.Folds.{list_any-append}
 use Rattle.std.proofs.lemmas.Option.{none-some}
@@ -11,7 +10,7 @@ use Rattle.plcs_base.specs.declared.value.Kind.{Kind}
 use Rattle.plcs_grammar.specs.PlainPhrase.{PlainPhrase}
 use Rattle.plcs_grammar.specs.declared.node_kind.NodeKind.{NodeKind}
 use Rattle.plcs_grammar.specs.declared.template.Template.{Template}
-use Rattle.template_tree.specs.Checks.Environment.{Heading, Sig, Signature, heading_of, item_named, items_inside, may_be_called, name_given, name_of_procedure, signature_for, signature_of}
+use Rattle.template_tree.specs.Checks.Environment.{Heading, Sig, Signature, heading_of, items_inside, may_be_called, name_given, name_of_procedure, signature_for, signature_of}
 use Rattle.template_tree.specs.Laws.CheckLaws.{ChecksIgnoreRoom}
 use Rattle.template_tree.specs.Programs.PlainTree.{Forest, Label, PlainNode, forest, roomless}
 use Rattle.template_tree.specs.Programs.Program.{sort_of}

@@ -1,18 +1,17 @@
 -- A name is gathered as one that an edit affects exactly where the edit affects it.
 use Rattle.std.proofs.Common.{◌≡◌, ◌≢◌, ℕ, Bool, true, false, List, [], ◌∷◌, length, Option, Some, None, refl, ap, sym, subst, ◌∙◌, ◌⊎◌, inl, inr, eq-eqb, eqb-true, true≢false}
-use Rattle.std.specs.Prelude.{◌==◌, ◌&&◌, ◌||◌, Contains, if◌then◌else◌, nat_lt, slice_get}
+use Rattle.std.specs.Prelude.{◌==◌, ◌&&◌, ◌||◌, if◌then◌else◌, nat_lt, slice_get}
 use Rattle.std.proofs.lemmas.Map.Views.{Contains-from_any}
-use Rattle.std.proofs.lemmas.Option.{none-some, same_Some}
+use Rattle.std.proofs.lemmas.Option.{same_Some}
 use Rattle.plcs_base.specs.Scope.{ItemMap}
 use Rattle.template_tree.specs.declared.change.Change.{Change}
-use Rattle.template_tree.specs.declared.change.What.{What}
 use Rattle.template_tree.specs.Checks.Environment.{Items, Sig, item_named}
 use Rattle.template_tree.specs.Checks.ProgramMaps.{ScopeTells, items_in}
 use Rattle.template_tree.specs.Edits.Edit.{changed_in, procedure_of}
 use Rattle.template_tree.specs.Laws.CheckLaws.{ChecksIgnoreRoom}
 use Rattle.template_tree.specs.Laws.RoomLaws.{NodesIgnoreRoom, SlotsIgnoreRoom}
 use Rattle.template_tree.specs.Laws.TreeLaws.{SlotEditIsPathEdit}
-use Rattle.template_tree.specs.Programs.PlainTree.{Forest, PlainNode, PlainTree, nodes}
+use Rattle.template_tree.specs.Programs.PlainTree.{PlainNode, PlainTree, nodes}
 use Rattle.template_tree.specs.Programs.Program.{sort_of}
 use Rattle.template_tree.specs.Programs.Tree.{IsTree}
 use Rattle.decl_table.specs.DeclEdit.{PlainNameEdit}
@@ -29,13 +28,12 @@ use Rattle.decl_table.specs.declared.reach.Reach.{Reach}
 use Rattle.decl_table.proofs.AffectedHeadings.{among, is_in, is_name, or_right, or_split}
 use Rattle.decl_table.proofs.BoundSites.{IsBoundBy, bind_twice, bound_after, bound_before}
 use Rattle.decl_table.proofs.EditGaps.{EditGap, edit_gap, items_apart, items_stay, long, short}
-use Rattle.decl_table.proofs.EditProcedures.{IsEditedItem, IsOwnProcedure, edited_item, fresh_before, gone_after, own_procedure}
+use Rattle.decl_table.proofs.EditProcedures.{IsOwnProcedure, edited_item, fresh_before, gone_after, own_procedure}
 use Rattle.decl_table.proofs.EditedHeadings.{headed}
 use Rattle.decl_table.proofs.EditedItems.{left_inside}
 use Rattle.decl_table.proofs.EditedNodes.{HasGapOf, StandsAt}
-use Rattle.decl_table.proofs.Gaps.{Gap}
 use Rattle.decl_table.proofs.TopEdits.{IsQuietName, set_binds, top_binds, top_quiet}
-use Rattle.decl_table.proofs.TurnedHeadings.{edited, sig_quiet, sig_turned, turned_sig}
+use Rattle.decl_table.proofs.TurnedHeadings.{sig_quiet, sig_turned, turned_sig}
 
 or_left : (a b : Bool) → a ≡ true → (a || b) ≡ true
 or_left a b is = ap (λ (x : Bool). x || b) is

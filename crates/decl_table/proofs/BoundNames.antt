@@ -1,9 +1,7 @@
 -- The names of effective items are among those that the declarations of their procedure bind, and that of a heading
 -- among those of its procedure.
-use Rattle.std.proofs.Common.{◌≡◌, ℕ, Bool, true, false, List, [], ◌∷◌, ◌++◌, map, Option, Some, None, refl, ap, sym, subst, ◌∙◌, ◌⊎◌, inl, inr, true≢false}
-use Rattle.std.specs.Prelude.{◌&&◌, ◌||◌, bytes_eq, cond, find, flat_map, if◌then◌else◌, is_some, option_and_then, option_map, unwrap_or}
-use Rattle.std.specs.List.{list_any}
-use Rattle.std.specs.Option.{option_or}
+use Rattle.std.proofs.Common.{◌≡◌, ℕ, Bool, true, false, List, [], ◌∷◌, ◌++◌, map, Option, Some, None, refl, ap, sym, ◌∙◌, ◌⊎◌, inl, inr, true≢false}
+use Rattle.std.specs.Prelude.{◌&&◌, ◌||◌, bytes_eq, cond, flat_map, if◌then◌else◌, is_some, option_map, unwrap_or}
 use Rattle.std.proofs.lemmas.List.Concat.{flat_map-cons}
 use Rattle.std.proofs.lemmas.List.Folds.{list_any-append}
 use Rattle.std.proofs.lemmas.Option.{none-some}
@@ -14,8 +12,6 @@ use Rattle.plcs_grammar.specs.declared.node_kind.NodeKind.{NodeKind}
 use Rattle.plcs_grammar.specs.declared.template.Template.{Template}
 use Rattle.plcs_grammar.specs.PlainPhrase.{PlainPhrase}
 use Rattle.template_tree.specs.Checks.Environment.{all_declared, declared_as, declares, effective, item_named, item_offence, items_inside, items_of_list, list_items, type_given, with_declared, with_type}
-use Rattle.template_tree.specs.Checks.Mention.{mentioned}
-use Rattle.template_tree.specs.Programs.Part.{part_at}
 use Rattle.template_tree.specs.Programs.PlainTree.{Forest, Label}
 use Rattle.template_tree.specs.Programs.Program.{sort_of}
 use Rattle.decl_table.specs.Due.{binds_names, bound_names, part_names}

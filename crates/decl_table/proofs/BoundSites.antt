@@ -13,7 +13,7 @@ use Rattle.template_tree.specs.Programs.PlainTree.{Forest, Label, PlainNode, Pla
 use Rattle.template_tree.specs.Programs.Program.{sort_of}
 use Rattle.template_tree.specs.Programs.Slots.{times}
 use Rattle.template_tree.specs.Programs.Tree.{IsTree}
-use Rattle.decl_table.specs.DeclEdit.{NameMend, PlainNameEdit}
+use Rattle.decl_table.specs.DeclEdit.{PlainNameEdit}
 use Rattle.decl_table.specs.Due.{binds_at, binds_names, bound_names, changed_names, part_names}
 use Rattle.decl_table.specs.Names.{NameForest, NameLabel, kept_names, names_of}
 use Rattle.decl_table.specs.Private.ChangeBefore.{IsBeforeChange, IsEditOf, IsNewNode, old_by, old_node, part_of}

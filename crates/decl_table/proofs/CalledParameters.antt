@@ -1,8 +1,7 @@
 -- A phrase that stands at a place is found on the path of its slot, and so is the procedure that is called by a name, with
 -- its parameters.
-use Rattle.std.proofs.Common.{◌≡◌, ℕ, zero, suc, ◌+◌, ◌<◌, ◌≤◌, Bool, true, false, cond, List, [], ◌∷◌, Option, Some, None, slice_get, refl, ap, sym, subst, ◌∙◌, arith, eqb-true, true≢false}
-use Rattle.std.specs.Prelude.{◌==◌, bytes_eq, if◌then◌else◌, option_and_then, option_map, unwrap_or}
-use Rattle.std.specs.List.{list_any}
+use Rattle.std.proofs.Common.{◌≡◌, ℕ, suc, ◌≤◌, Bool, true, false, List, [], ◌∷◌, Option, Some, None, slice_get, refl, ap, sym, subst, ◌∙◌, arith, eqb-true, true≢false}
+use Rattle.std.specs.Prelude.{◌==◌, if◌then◌else◌, option_and_then, option_map, unwrap_or}
 use Rattle.std.proofs.lemmas.Option.{none-some, same_Some}
 use Rattle.plcs_base.specs.declared.place.PhraseAt.{PhraseAt}
 use Rattle.plcs_grammar.specs.PlainPhrase.{PlainPhrase}

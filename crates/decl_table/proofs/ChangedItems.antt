@@ -1,5 +1,5 @@
 -- The item of a number that a procedure has after an edit, by what becomes of the items of one procedure.
-use Rattle.std.proofs.Common.{◌≡◌, ℕ, List, Option, Some, None, ap, sym, ◌∙◌}
+use Rattle.std.proofs.Common.{◌≡◌, ℕ, List, Option, None, ap, sym, ◌∙◌}
 use Rattle.plcs_base.specs.Scope.{ItemMap, item_at}
 use Rattle.plcs_base.specs.declared.declared.Declared.{Declared}
 use Rattle.plcs_base.specs.declared.place.Slot.{Slot}

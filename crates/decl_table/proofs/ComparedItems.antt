@@ -1,10 +1,9 @@
 -- An item is another one among others where another type or size is kept of its name, or none.
-use Rattle.std.proofs.Common.{◌≡◌, ℕ, Bool, true, false, List, ◌∷◌, map, Option, Some, None, refl, ap, sym, ◌∙◌}
+use Rattle.std.proofs.Common.{◌≡◌, ℕ, Bool, true, false, List, Option, Some, None, refl, ap, sym, ◌∙◌}
 use Rattle.std.specs.Prelude.{◌==◌, ◌&&◌, bytes_eq, if◌then◌else◌, not, option_and_then, option_map, slice_get}
 use Rattle.std.specs.Map.{lookup}
 use Rattle.std.proofs.lemmas.Option.{slice_get-map}
 use Rattle.plcs_base.specs.declared.declared.Declared.{Declared}
-use Rattle.template_tree.specs.Checks.Environment.{item_named}
 use Rattle.decl_table.specs.Private.ItemTests.{item_differs, lost_at, same_item, same_shapes, same_types}
 use Rattle.decl_table.specs.Private.ItemsView.{items_of, shaped}
 use Rattle.decl_table.specs.declared.items.Shape.{Shape}

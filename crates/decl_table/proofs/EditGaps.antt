@@ -1,35 +1,34 @@
 -- The gap of an edit with the nodes whose names are kept: which headings and which effective items stay.
-use Rattle.std.specs.Prelude.{◌≡◌, ◌≢◌, refl, ℕ, zero, suc, ◌+◌, ◌≤◌, Bool, true, false, ◌||◌, nat_lt, if◌then◌else◌, List, [], ◌∷◌, bytes_eq, length, map, Option, Some, None, option_and_then, option_map, slice_get, unwrap_or}
+use Rattle.std.specs.Prelude.{◌≡◌, refl, ℕ, Bool, true, false, ◌||◌, nat_lt, List, [], ◌∷◌, bytes_eq, length, Option, Some, None, option_and_then, option_map, slice_get, unwrap_or}
 use Rattle.std.specs.List.{list_any}
 use Rattle.std.specs.Option.{option_flatten}
 use Rattle.std.proofs.Common.{ap, sym, ◌∙◌, subst, arith, le-ltb, lt-ltb, true≢false}
 use Rattle.std.proofs.lemmas.Option.{none-some}
-use Rattle.plcs_base.specs.declared.declared.Declared.{Declared}
 use Rattle.plcs_base.specs.declared.declared.ItemType.{ItemType}
 use Rattle.plcs_grammar.specs.PlainPhrase.{PlainPhrase}
 use Rattle.plcs_grammar.specs.declared.node_kind.NodeKind.{NodeKind}
 use Rattle.plcs_grammar.specs.declared.template.Template.{Template}
 use Rattle.template_tree.specs.declared.change.What.{What}
-use Rattle.template_tree.specs.Checks.Environment.{Items, declares, items_inside, list_items, type_given, with_type}
+use Rattle.template_tree.specs.Checks.Environment.{Items, list_items, type_given, with_type}
 use Rattle.template_tree.specs.Laws.RoomLaws.{NodesIgnoreRoom, SlotsIgnoreRoom}
 use Rattle.template_tree.specs.Laws.TreeLaws.{SlotEditIsPathEdit}
 use Rattle.template_tree.specs.Positions.Path.{below, node_at, slot_at}
-use Rattle.template_tree.specs.Programs.Part.{part_at, with_part}
-use Rattle.template_tree.specs.Programs.PlainTree.{Forest, PlainNode, PlainTree, forest, nodes, roomless}
+use Rattle.template_tree.specs.Programs.Part.{with_part}
+use Rattle.template_tree.specs.Programs.PlainTree.{Forest, PlainNode, PlainTree, forest, nodes}
 use Rattle.template_tree.specs.Programs.Program.{sort_of}
 use Rattle.template_tree.specs.Programs.Tree.{IsTree}
-use Rattle.decl_table.specs.DeclEdit.{NameMend, PlainNameEdit}
+use Rattle.decl_table.specs.DeclEdit.{PlainNameEdit}
 use Rattle.decl_table.specs.Due.{binds_names}
-use Rattle.decl_table.specs.Names.{NameForest, NameLabel, kept_names, names_of}
+use Rattle.decl_table.specs.Names.{NameForest, NameLabel}
 use Rattle.decl_table.specs.Private.ChangeBefore.{IsBeforeChange, IsEditOf, IsNewNode, old_by, old_node, part_of}
-use Rattle.decl_table.specs.Private.HeadingChangesView.{stands_first, stands_in}
+use Rattle.decl_table.specs.Private.HeadingChangesView.{stands_in}
 use Rattle.decl_table.specs.Private.NamePaths.{names_below}
 use Rattle.decl_table.specs.Private.PlainNameNode.{PlainNameNode, name_node_of, node_names}
 use Rattle.decl_table.specs.Private.ReachView.{has_heading, has_items, item_reach, names_bind, reach_of}
-use Rattle.decl_table.proofs.EditedHeadings.{Headless, IsDeep, deep_at, headed, headed_alike, headed_deep, headed_gap, is_kept, unheaded}
+use Rattle.decl_table.proofs.EditedHeadings.{Headless, deep_at, headed, headed_alike, headed_deep, headed_gap, unheaded}
 use Rattle.decl_table.proofs.EditedNodes.{HasGapOf, StandsAt, alike_set, below_root, gap_add, gap_drop, gap_put, gap_set, part_kept}
 use Rattle.decl_table.proofs.EditedScopes.{AreApart, DeclareNone, IsElsewhere, IsQuiet, elsewhere_here, elsewhere_inside, items_alike, items_elsewhere, items_quiet, quiet_here, quiet_inside}
-use Rattle.decl_table.proofs.Gaps.{Gap, filled}
+use Rattle.decl_table.proofs.Gaps.{filled}
 use Rattle.decl_table.proofs.PreparedNames.{node_roomless}
 use Rattle.decl_table.proofs.SlotNodes.{node_of_slot}
 

@@ -1,10 +1,9 @@
 -- The procedure of an edit: main or the procedure in which the edit was made, before it and after it.
-use Rattle.std.proofs.Common.{◌≡◌, ℕ, zero, suc, ◌+◌, ◌≤◌, ◌<◌, Bool, true, false, List, [], ◌∷◌, ◌++◌, length, Option, Some, None, refl, ap, sym, subst, ◌∙◌, arith, eq-eqb, ne_eqb, lt-ltb, true≢false}
-use Rattle.std.specs.Prelude.{◌==◌, ◌||◌, All, cond, find, if◌then◌else◌, nat_lt, option_and_then, option_map, slice_get}
+use Rattle.std.proofs.Common.{◌≡◌, ℕ, zero, suc, ◌≤◌, Bool, true, List, [], ◌∷◌, ◌++◌, length, Option, Some, None, refl, ap, sym, subst, ◌∙◌, arith, eq-eqb, ne_eqb, lt-ltb}
+use Rattle.std.specs.Prelude.{All, cond, find, if◌then◌else◌, nat_lt, option_and_then, option_map, slice_get}
 use Rattle.std.proofs.lemmas.Option.{none-some, same_Some}
 use Rattle.plcs_grammar.specs.Template.{program_sections}
 use Rattle.plcs_grammar.specs.declared.node_kind.Sort.{Sort}
-use Rattle.template_tree.specs.declared.change.Change.{Change}
 use Rattle.template_tree.specs.declared.change.What.{What}
 use Rattle.template_tree.specs.Checks.Environment.{procedure_at}
 use Rattle.template_tree.specs.Edits.Edit.{changed_in, procedure_of}
@@ -18,8 +17,8 @@ use Rattle.decl_table.specs.DeclEdit.{PlainNameEdit}
 use Rattle.decl_table.specs.Due.{binds_names}
 use Rattle.decl_table.specs.Names.{NameForest}
 use Rattle.decl_table.specs.Private.ChangeBefore.{IsBeforeChange, IsEditOf}
-use Rattle.decl_table.specs.Private.ItemChangeView.{item_left, procedure_left}
-use Rattle.decl_table.proofs.EditedNodes.{HasGapOf, StandsAt, gap_add, gap_drop}
+use Rattle.decl_table.specs.Private.ItemChangeView.{procedure_left}
+use Rattle.decl_table.proofs.EditedNodes.{HasGapOf, gap_add, gap_drop}
 use Rattle.decl_table.proofs.EditedScopes.{counted}
 use Rattle.decl_table.proofs.Gaps.{Gap, IsGapAt, filled, times_gap}
 use Rattle.decl_table.proofs.PreparedNames.{same_times}

@@ -1,8 +1,8 @@
 -- The effective items of all procedures after an edit: those of one procedure are taken anew, or none are, where it went, and
 -- all others stay.
-use Rattle.std.specs.Prelude.{◌≡◌, refl, ℕ, zero, suc, ◌+◌, ◌≤◌, ◌==◌, Bool, true, false, ◌||◌, cond, nat_eq, nat_lt, if◌then◌else◌, List, [], ◌∷◌, length, Option, Some, None, option_and_then, option_map, slice_get, unwrap_or}
+use Rattle.std.specs.Prelude.{◌≡◌, refl, ℕ, zero, suc, Bool, true, false, ◌||◌, cond, nat_eq, nat_lt, List, [], ◌∷◌, length, Option, Some, None, option_and_then, option_map, slice_get, unwrap_or}
 use Rattle.std.specs.FinMap.{get, get-insert, get-remove, insert, remove}
-use Rattle.std.proofs.Common.{ap, sym, ◌∙◌, subst, arith, eq-eqb, eqb-true, ne_eqb, true≢false}
+use Rattle.std.proofs.Common.{ap, sym, ◌∙◌, subst, arith, eq-eqb, eqb-true, true≢false}
 use Rattle.std.proofs.lemmas.Cmp.{nat_cmp_total}
 use Rattle.std.proofs.lemmas.Option.{none-some}
 use Rattle.plcs_base.specs.PlaceOrder.{nat_ties}
@@ -11,11 +11,10 @@ use Rattle.plcs_base.specs.declared.declared.Declared.{Declared}
 use Rattle.template_tree.specs.declared.change.What.{What}
 use Rattle.template_tree.specs.Checks.Environment.{Items, items_inside}
 use Rattle.template_tree.specs.Checks.ProgramMaps.{ScopeTells, items_in}
-use Rattle.template_tree.specs.Laws.RoomLaws.{NodesIgnoreRoom, SlotsIgnoreRoom}
+use Rattle.template_tree.specs.Laws.RoomLaws.{SlotsIgnoreRoom}
 use Rattle.template_tree.specs.Laws.TreeLaws.{SlotEditIsPathEdit}
 use Rattle.template_tree.specs.Positions.Path.{below, node_at, slot_at}
-use Rattle.template_tree.specs.Programs.PlainTree.{Forest, PlainNode, PlainTree, forest, nodes, roomless}
-use Rattle.template_tree.specs.Programs.Slots.{times}
+use Rattle.template_tree.specs.Programs.PlainTree.{Forest, PlainNode, PlainTree, forest, nodes}
 use Rattle.template_tree.specs.Programs.Tree.{IsTree}
 use Rattle.decl_table.specs.DeclEdit.{PlainNameEdit, items_changed}
 use Rattle.decl_table.specs.Names.{NameForest}
@@ -28,7 +27,6 @@ use Rattle.decl_table.proofs.EditedNodes.{StandsAt, gap_drop}
 use Rattle.decl_table.proofs.EditedScopes.{counted, items_nowhere, items_there}
 use Rattle.decl_table.proofs.Gaps.{Gap, IsGapAt, filled, times_gap}
 use Rattle.decl_table.proofs.PreparedNames.{same_times}
-use Rattle.decl_table.proofs.SlotNodes.{node_of_slot}
 
 -- ---- the map of items
 

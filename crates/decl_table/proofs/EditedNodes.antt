@@ -7,7 +7,7 @@ use Rattle.plcs_base.specs.declared.place.PhraseAt.{PhraseAt}
 use Rattle.plcs_grammar.specs.PlainPhrase.{PlainPhrase}
 use Rattle.template_tree.specs.declared.change.What.{What}
 use Rattle.template_tree.specs.Checks.Mention.{mention, mentions, phrase_at}
-use Rattle.template_tree.specs.Edits.Edit.{edit_at, edit_slot, give_way}
+use Rattle.template_tree.specs.Edits.Edit.{edit_at, edit_slot}
 use Rattle.template_tree.specs.Laws.RoomLaws.{NodesIgnoreRoom, SlotsIgnoreRoom}
 use Rattle.template_tree.specs.Laws.TreeLaws.{SlotEditIsPathEdit}
 use Rattle.template_tree.specs.Positions.Path.{node_at, slot_at}
@@ -21,9 +21,9 @@ use Rattle.decl_table.specs.Names.{NameForest, NameLabel, kept_names, names_of}
 use Rattle.decl_table.specs.Private.ChangeBefore.{IsBeforeChange, IsEditOf, IsNewNode, old_by, old_node, part_of, places_of}
 use Rattle.decl_table.specs.Private.UsesView.{is_among}
 use Rattle.decl_table.specs.Private.NamePaths.{names_at, names_below}
-use Rattle.decl_table.specs.Private.PlainNameNode.{HaveFewParts, PlainNameNode, kept_mention, kept_mentions, name_node_of, name_nodes, node_names}
+use Rattle.decl_table.specs.Private.PlainNameNode.{HaveFewParts, PlainNameNode, kept_mention, kept_mentions, name_node_of, node_names}
 use Rattle.decl_table.proofs.EditedUses.{IsOutside, nodes_outside, part_outside}
-use Rattle.decl_table.proofs.Gaps.{Gap, HasGap, IsGapAt, filled, gap_at}
+use Rattle.decl_table.proofs.Gaps.{Gap, IsGapAt, filled, gap_at}
 use Rattle.decl_table.proofs.KeptMentions.{mention_is, mentions_are, names_few}
 use Rattle.decl_table.proofs.MendedNames.{names_slot}
 use Rattle.decl_table.proofs.PreparedNames.{by_path, node_roomless, part_slot, part_there, same_there, same_times}

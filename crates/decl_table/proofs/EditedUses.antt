@@ -1,7 +1,7 @@
 -- Where names are mentioned before an edit and after it: what went, what came, and what stays.
 use Rattle.std.specs.Prelude.{◌≡◌, refl, ℕ, ◌+◌, ◌≤◌, Bool, true, false, ◌||◌, List, [], ◌∷◌, Contains, bytes_eq, slice_set, None, Option}
 use Rattle.std.specs.Map.{lookup}
-use Rattle.std.proofs.Common.{ap, sym, ◌∙◌, subst, arith, true≢false}
+use Rattle.std.proofs.Common.{ap, sym, ◌∙◌, subst, arith}
 use Rattle.std.proofs.lemmas.Map.Views.{Contains-from_any, list_any-from_Contains}
 use Rattle.plcs_base.specs.PlaceOrder.{places_equiv, same_place}
 use Rattle.plcs_base.specs.declared.place.PhraseAt.{PhraseAt}

@@ -22,7 +22,7 @@ use Rattle.template_tree.specs.Checks.Environment.{procedure_at}
 use Rattle.template_tree.specs.Checks.Marks.{node_verdicts, part_verdicts, procedure_verdicts, surroundings}
 use Rattle.template_tree.specs.Checks.Mention.{mention, mentioned, mentions, part_mentions, phrase_at}
 use Rattle.template_tree.specs.Checks.Verdict.{Surroundings}
-use Rattle.template_tree.specs.Positions.Place.{PlainPlace, Site, begin, end_at, in_turn, inner_end, place_at, site, site_among}
+use Rattle.template_tree.specs.Positions.Place.{PlainPlace, Site, begin, end_at, in_turn, inner_end, place_at, site_among}
 use Rattle.template_tree.specs.Programs.Part.{part_at}
 use Rattle.template_tree.specs.Programs.PlainTree.{Forest, Label, PlainNode}
 use Rattle.decl_table.specs.Due.{AreDue, IsDue, all_list_places, changed_places, filled_place, filled_places, is_name_list, list_place, list_places, phrase_places, procedure_lists}

@@ -1,6 +1,6 @@
 -- The path of a slot among nodes whose names are kept, found item after item.
-use Rattle.std.specs.Prelude.{◌≡◌, refl, ℕ, zero, suc, ◌+◌, ◌<◌, ◌≤◌, ◌==◌, Bool, true, false, if◌then◌else◌, List, [], ◌∷◌, length, drop, Option, Some, None, option_map, unwrap_or, slice_get}
-use Rattle.std.proofs.Common.{ap, sym, ◌∙◌, subst, arith, add-one}
+use Rattle.std.specs.Prelude.{◌≡◌, refl, ℕ, zero, suc, ◌+◌, ◌≤◌, ◌==◌, Bool, true, false, if◌then◌else◌, List, [], ◌∷◌, length, drop, Option, Some, None, option_map, unwrap_or, slice_get}
+use Rattle.std.proofs.Common.{ap, ◌∙◌, arith}
 use Rattle.std.proofs.Math.ListN.{drop_of_length-le}
 use Rattle.plcs_base.specs.ListLeft.{left_from}
 use Rattle.std.proofs.lemmas.Bool.{eqb-true}

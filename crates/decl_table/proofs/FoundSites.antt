@@ -1,11 +1,9 @@
 -- The site of a slot, where the node in it is found by its path, and the places of phrases that stand there.
-use Rattle.std.specs.Prelude.{◌≡◌, refl, ℕ, zero, suc, ◌+◌, ◌≤◌, ◌==◌, Bool, true, false, if◌then◌else◌, List, [], ◌∷◌, ◌++◌, map, Contains, Option, Some, None, option_map, slice_get}
+use Rattle.std.specs.Prelude.{◌≡◌, refl, ℕ, zero, suc, ◌≤◌, Bool, false, if◌then◌else◌, List, [], ◌∷◌, Contains, Option, Some, None, option_map, slice_get}
 use Rattle.std.specs.Option.{option_flatten, option_map_or, option_or}
 use Rattle.std.proofs.Common.{ap, sym, ◌∙◌, subst, arith, eq-eqb, ne_eqb}
-use Rattle.std.proofs.lemmas.List.{append-nil}
 use Rattle.std.proofs.lemmas.Option.{none-some}
 use Rattle.plcs_base.specs.declared.place.PhraseAt.{PhraseAt}
-use Rattle.plcs_grammar.specs.PlainPhrase.{PlainPhrase}
 use Rattle.plcs_grammar.specs.Template.{row_of}
 use Rattle.template_tree.specs.declared.change.Change.{Change}
 use Rattle.template_tree.specs.declared.change.What.{What}
@@ -17,8 +15,8 @@ use Rattle.template_tree.specs.Programs.PlainTree.{Forest, Label, PlainNode, Pla
 use Rattle.template_tree.specs.Programs.Slots.{times}
 use Rattle.template_tree.specs.Programs.Tree.{IsTree}
 use Rattle.decl_table.specs.Due.{AreGone, changed_places, filled_place, phrase_places}
-use Rattle.decl_table.specs.Names.{NameForest, NameLabel, kept_names, names_of}
-use Rattle.decl_table.specs.DeclEdit.{NameMend, PlainNameEdit}
+use Rattle.decl_table.specs.Names.{NameForest, NameLabel}
+use Rattle.decl_table.specs.DeclEdit.{PlainNameEdit}
 use Rattle.decl_table.specs.Private.ChangeBefore.{IsBeforeChange, IsEditOf, IsNewNode, old_by, old_node, part_of, spots_of}
 use Rattle.decl_table.specs.Private.NamePaths.{names_below}
 use Rattle.decl_table.specs.Private.PlainNameNode.{PlainNameNode, kept_place, name_node_of, name_places, node_names}

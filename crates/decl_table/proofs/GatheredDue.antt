@@ -1,7 +1,6 @@
 -- The places that are gathered as due for a check are those for which there is a reason.
-use Rattle.std.proofs.Common.{◌≡◌, ℕ, Bool, true, false, List, [], ◌∷◌, ◌++◌, length, Option, refl, ap, sym, subst, ◌∙◌, ◌⊎◌, inl, inr, arith, true≢false}
+use Rattle.std.proofs.Common.{◌≡◌, ℕ, Bool, true, List, [], ◌∷◌, ◌++◌, Option, ap, sym, subst, ◌⊎◌, inl, inr, arith, true≢false}
 use Rattle.std.specs.Prelude.{◌↔◌, ◌||◌, bytes_eq, Contains, flat_map}
-use Rattle.std.specs.List.{list_any}
 use Rattle.std.proofs.lemmas.List.Concat.{flat_map-cons}
 use Rattle.std.proofs.lemmas.List.Elements.{Contains-append_cases, Contains-append_left, Contains-append_right}
 use Rattle.plcs_base.specs.declared.declared.Declared.{Declared}

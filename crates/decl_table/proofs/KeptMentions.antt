@@ -1,5 +1,5 @@
 -- The names that are kept of a program tell where each name is mentioned and where phrases stand, as the program does.
-use Rattle.std.proofs.Common.{◌≡◌, ℕ, ◌+◌, ◌<◌, Bool, true, false, List, [], ◌∷◌, ◌++◌, length, map, Option, Some, None, option_map, refl, sym, ap, subst, ◌∙◌, arith}
+use Rattle.std.proofs.Common.{◌≡◌, ℕ, ◌+◌, Bool, true, false, List, [], ◌∷◌, ◌++◌, map, Option, Some, None, option_map, refl, ap, ◌∙◌, arith}
 use Rattle.std.specs.Prelude.{◌||◌, bytes_eq, if◌then◌else◌, reverse}
 use Rattle.std.specs.List.{list_any}
 use Rattle.std.proofs.lemmas.List.{length-map, reverse-append}
@@ -10,7 +10,7 @@ use Rattle.template_tree.specs.Checks.Mention.{mention, mentioned, mentions, par
 use Rattle.template_tree.specs.Programs.PlainTree.{Forest}
 use Rattle.template_tree.specs.Programs.Program.{AreNodes}
 use Rattle.decl_table.specs.Due.{filled_place, filled_places, phrase_places}
-use Rattle.decl_table.specs.Names.{NameForest, kept_names, names_of}
+use Rattle.decl_table.specs.Names.{kept_names, names_of}
 use Rattle.decl_table.specs.Private.PlainNameNode.{HaveFewParts, kept_mention, kept_mentions, kept_part_mentions, kept_place, kept_places, name_places}
 use Rattle.decl_table.proofs.MadeNames.{few_parts}
 

@@ -1,15 +1,13 @@
 -- Where what is gathered comes from: the table before an edit where the edit changed nothing, what the edit changed, and the
 -- edited tree; and what is known name after name and place after place.
-use Rattle.std.specs.Prelude.{◌≡◌, if◌then◌else◌, refl, ℕ, zero, suc, ◌+◌, ◌<◌, ◌≤◌, Bool, true, false, ◌||◌, bytes_eq, Contains, drop, get_or, length, List, [], ◌∷◌, map, take, Option, Some, None, option_map, slice_get, unwrap_or, Result, Ok, Err, OnOk}
-use Rattle.std.specs.FinMap.{empty, get, insert}
+use Rattle.std.specs.Prelude.{◌≡◌, if◌then◌else◌, refl, ℕ, zero, suc, ◌+◌, ◌<◌, ◌≤◌, Bool, true, false, ◌||◌, bytes_eq, drop, get_or, length, List, [], ◌∷◌, take, Option, Some, None, Result, Ok, Err, OnOk}
 use Rattle.std.specs.List.{list_any}
-use Rattle.std.specs.Map.{lookup}
 use Rattle.std.proofs.Common.{◌⊎◌, inl, inr, ap, sym, subst, ◌∙◌, add-one, arith, true≢false}
 use Rattle.std.proofs.lemmas.Option.{none-some, same_Some}
 use Rattle.plcs_base.specs.declared.declared.Declared.{Declared}
 use Rattle.plcs_base.specs.declared.place.PhraseAt.{PhraseAt}
 use Rattle.plcs_grammar.specs.PlainPhrase.{PlainPhrase}
-use Rattle.template_tree.specs.Checks.Environment.{Items, Sig, Signature, item_named}
+use Rattle.template_tree.specs.Checks.Environment.{Items, item_named}
 use Rattle.template_tree.specs.Checks.Mention.{mentioned}
 use Rattle.template_tree.specs.Checks.ProgramMaps.{items_in}
 use Rattle.template_tree.specs.Programs.PlainTree.{Forest, PlainNode}

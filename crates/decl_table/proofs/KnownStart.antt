@@ -1,7 +1,7 @@
 -- Before anything is gathered: by what the edit makes of the table before it, that table and the changes of headings tell what
 -- the edited program has, and a table with the items of the procedure alone says nothing that isn't so.
 use Rattle.std.specs.Prelude.{◌≡◌, refl, ℕ, Bool, true, false, bytes_eq, cond, nat_eq, List, [], Option, Some, None, option_map, unwrap_or}
-use Rattle.std.specs.FinMap.{empty, get, get-empty, insert}
+use Rattle.std.specs.FinMap.{empty, get-empty, insert}
 use Rattle.std.specs.Map.{lookup}
 use Rattle.std.specs.Ordering.{nat_cmp}
 use Rattle.std.proofs.Common.{◌⊎◌, inl, inr, ap, sym, subst, ◌∙◌, eq-eqb, eqb-true, true≢false}
@@ -11,10 +11,9 @@ use Rattle.template_tree.specs.Checks.Environment.{Items, Sig, Signature, item_n
 use Rattle.template_tree.specs.Checks.ProgramMaps.{ScopeTells, items_in}
 use Rattle.template_tree.specs.Programs.PlainTree.{Forest}
 use Rattle.decl_table.specs.DeclEdit.{changed_or, items_changed}
-use Rattle.decl_table.specs.Knowledge.{KnowsHeading}
-use Rattle.decl_table.specs.PlainDecls.{PlainDecls, PlainHeadings, slot_of}
+use Rattle.decl_table.specs.PlainDecls.{PlainDecls, slot_of}
 use Rattle.decl_table.specs.Private.ItemChangeView.{plain_item_change}
-use Rattle.decl_table.specs.Private.KnownTable.{IsGathering, IsSource, KnowsItem, SaysTrue, is_changed, items_only}
+use Rattle.decl_table.specs.Private.KnownTable.{IsGathering, IsSource, KnowsItem, is_changed, items_only}
 use Rattle.decl_table.specs.declared.decl_edit.ItemChange.{ItemChange}
 use Rattle.decl_table.proofs.EditedItems.{found_insert, in_insert, in_remove}
 

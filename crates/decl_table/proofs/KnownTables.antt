@@ -1,7 +1,7 @@
 -- A table in which it is gathered what has to be known where phrases are checked: each item and heading that comes is the
 -- program's, and what was known stays.
-use Rattle.std.proofs.Common.{◌≡◌, ℕ, zero, suc, ◌+◌, ◌≤◌, Bool, true, false, List, [], ◌∷◌, Option, Some, None, slice_get, refl, ap, sym, subst, ◌∙◌, ◌⊎◌, inl, inr, arith, eq-eqb, eqb-true, true≢false}
-use Rattle.std.specs.Prelude.{◌==◌, bytes_eq, if◌then◌else◌, nat_eq, option_and_then, option_map, unwrap_or}
+use Rattle.std.proofs.Common.{◌≡◌, ℕ, zero, suc, ◌≤◌, Bool, true, false, List, [], ◌∷◌, Option, Some, None, slice_get, refl, ap, sym, subst, ◌∙◌, ◌⊎◌, inl, inr, arith, eqb-true}
+use Rattle.std.specs.Prelude.{bytes_eq, if◌then◌else◌, nat_eq, option_and_then, option_map, unwrap_or}
 use Rattle.std.specs.FinMap.{get}
 use Rattle.std.proofs.lemmas.Option.{none-some, same_Some}
 use Rattle.std.proofs.lemmas.Slice.Eq.{bytes_eq-Decides}
@@ -15,7 +15,7 @@ use Rattle.template_tree.specs.Positions.Path.{below, node_at}
 use Rattle.template_tree.specs.Programs.Part.{part_at}
 use Rattle.template_tree.specs.Programs.PlainTree.{Forest, PlainNode, nodes}
 use Rattle.template_tree.specs.Programs.Slots.{times}
-use Rattle.decl_table.specs.Knowledge.{Knows, KnowsHeading, Stands}
+use Rattle.decl_table.specs.Knowledge.{KnowsHeading, Stands}
 use Rattle.decl_table.specs.PlainDecls.{PlainDecls, PlainHeadings, slot_of}
 use Rattle.decl_table.specs.Private.KnownTable.{KnowsItem, Learns, SaysTrue}
 use Rattle.decl_table.proofs.EditedScopes.{counted}

@@ -1,5 +1,5 @@
 -- The item of a tree in which something was changed: none where it was dropped itself.
-use Rattle.std.proofs.Common.{◌≡◌, ℕ, Bool, true, false, List, [], ◌∷◌, length, Option, Some, None, refl, ap, sym, ◌∙◌, arith, ne_eqb, true≢false}
+use Rattle.std.proofs.Common.{◌≡◌, ℕ, true, false, List, [], ◌∷◌, length, Option, None, refl, ap, sym, ◌∙◌, arith, ne_eqb, true≢false}
 use Rattle.std.specs.Prelude.{◌==◌, slice_get}
 use Rattle.template_tree.specs.declared.change.What.{What}
 use Rattle.template_tree.specs.Programs.PlainTree.{Forest, PlainNode, nodes}

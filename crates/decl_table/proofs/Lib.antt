@@ -8,7 +8,7 @@ mod SettledUses
 mod TableMaps
 -- what the table knows of the procedures that are taken: `Decls::new`
 mod ReadProcedures
--- a value that is handed out once something is done with it: `pieces_with` of Decls
+-- a value that is handed out once something is done with it: `pieces_with` and `affected` of Decls, `of` of NameNode
 mod HandedOut
 -- `NameEdit::of`: the node in the slot of an edit, and what becomes of the names that are kept there
 pub mod SlotNodes

@@ -1,10 +1,10 @@
 -- What becomes of a node whose names are kept, in the list in which it stands.
-use Rattle.std.specs.Prelude.{◌≡◌, refl, ℕ, zero, suc, ◌+◌, ◌*◌, ◌<◌, ◌≤◌, List, [], ◌∷◌, length, map, sum, Option, Some, None, IsSomeAnd, slice_get, slice_set}
+use Rattle.std.specs.Prelude.{◌≡◌, refl, ℕ, zero, suc, ◌<◌, ◌≤◌, List, [], ◌∷◌, length, Option, Some, None, IsSomeAnd, slice_get, slice_set}
 use Rattle.std.specs.List.{insert, remove}
 use Rattle.std.proofs.Common.{ap, sym, ◌∙◌, subst, arith}
 use Rattle.std.proofs.lemmas.Option.{none-some}
-use Rattle.decl_table.specs.Names.{NameForest, NameLabel}
-use Rattle.decl_table.specs.DeclEdit.{NameMend, MayMendName, MayMendNames, names_mended, name_added, name_gives_way, names_inside, with_names_inside, with_part_names}
+use Rattle.decl_table.specs.Names.{NameForest}
+use Rattle.decl_table.specs.DeclEdit.{NameMend, MayMendNames, names_mended, name_added, name_gives_way, names_inside, with_names_inside, with_part_names}
 use Rattle.decl_table.specs.Private.NameMendView.{with_mend, with_parts_of}
 use Rattle.decl_table.specs.Private.PlainNameNode.{PlainNameNode, name_forest, name_forest_nodes, name_nodes, node_names}
 

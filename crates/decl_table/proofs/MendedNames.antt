@@ -1,6 +1,6 @@
 -- What an edit of a tree makes of the names that are kept of it: at the path of the edit the node comes, comes in place
 -- of another, goes or has other parts, and all other nodes stay.
-use Rattle.std.specs.Prelude.{◌≡◌, refl, ℕ, zero, suc, ◌+◌, ◌<◌, ◌≤◌, ◌==◌, if◌then◌else◌, List, [], ◌∷◌, length, map, Option, Some, None, option_map}
+use Rattle.std.specs.Prelude.{◌≡◌, refl, ℕ, zero, suc, ◌+◌, ◌<◌, ◌==◌, if◌then◌else◌, List, [], ◌∷◌, length, map, Option, Some, None, option_map}
 use Rattle.std.proofs.Common.{ap, sym, ◌∙◌, arith}
 use Rattle.std.proofs.lemmas.Option.{none-some}
 use Rattle.plcs_grammar.specs.PlainPhrase.{PlainPhrase}
@@ -9,7 +9,7 @@ use Rattle.template_tree.specs.Positions.Path.{node_at, slot_at}
 use Rattle.template_tree.specs.Programs.Part.{with_part}
 use Rattle.template_tree.specs.Programs.PlainTree.{Forest, Label, PlainNode}
 use Rattle.template_tree.specs.Programs.Slots.{count, depth, times}
-use Rattle.decl_table.specs.DeclEdit.{MayMendName, MayMendNames, NameMend, name_mended, names_inside, names_mended}
+use Rattle.decl_table.specs.DeclEdit.{MayMendName, MayMendNames, NameMend, names_inside, names_mended}
 use Rattle.decl_table.specs.Names.{NameForest, NameLabel, kept_names, names_of}
 use Rattle.decl_table.specs.Private.NamePaths.{count_beside, name_count, name_depth, name_times, names_at}
 use Rattle.decl_table.specs.Private.PlainNameNode.{PlainNameNode, name_node_of, node_names}

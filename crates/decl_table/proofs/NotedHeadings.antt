@@ -1,12 +1,12 @@
 -- What the effective headings of names are, noted name after name, and found item after item.
-use Rattle.std.proofs.Common.{◌≡◌, ◌⊎◌, ℕ, ◌+◌, ◌<◌, Bool, true, false, cond, List, [], ◌∷◌, ◌++◌, drop, length, is_some, Option, Some, None, option_map, inl, inr, refl, sym, ap, subst, ◌∙◌, true≢false}
+use Rattle.std.proofs.Common.{◌≡◌, ◌⊎◌, ℕ, ◌+◌, Bool, true, false, cond, List, [], ◌∷◌, ◌++◌, drop, is_some, Option, Some, None, option_map, inl, inr, refl, sym, ap, ◌∙◌, true≢false}
 use Rattle.std.specs.Prelude.{◌&&◌, ◌||◌, bytes_eq, find, if◌then◌else◌, option_and_then}
 use Rattle.std.specs.List.{list_any}
 use Rattle.std.specs.Map.{lookup}
 use Rattle.std.specs.Option.{option_map_or, option_or}
 use Rattle.std.proofs.lemmas.Slice.Eq.{bytes_eq-Decides}
 use Rattle.plcs_base.specs.declared.place.Slot.{Slot}
-use Rattle.template_tree.specs.Checks.Environment.{Heading, Sig, Signature, heading_of, may_be_called, signature_for, signature_of}
+use Rattle.template_tree.specs.Checks.Environment.{Heading, Sig, Signature, heading_of, may_be_called, signature_of}
 use Rattle.template_tree.specs.Programs.PlainTree.{Forest, PlainNode}
 use Rattle.decl_table.specs.declared.heading_changes.HeadingChange.{HeadingChange}
 use Rattle.decl_table.specs.Private.HeadingChangesView.{IsHeadingNoted, MayBeNoted, NotesHeadings, plain_heading_changes}

@@ -1,5 +1,5 @@
 -- One item noted among those of a procedure: the items under its slot come to be these, and others stay.
-use Rattle.std.proofs.Common.{◌≡◌, ℕ, Bool, false, List, [], Option, Some, refl, ap, sym, ◌∙◌}
+use Rattle.std.proofs.Common.{◌≡◌, ℕ, Bool, false, List, [], Option, Some, ap, sym, ◌∙◌}
 use Rattle.std.specs.Prelude.{bytes_eq, cond, if◌then◌else◌, nat_eq, unwrap_or}
 use Rattle.std.specs.FinMap.{from_entries, get, get-insert, insert}
 use Rattle.std.specs.Map.{lookup}

@@ -1,5 +1,5 @@
 -- What is kept in a node in memory whose names are kept.
-use Rattle.std.specs.Prelude.{slice_get, ◌≡◌, ℕ, List}
+use Rattle.std.specs.Prelude.{slice_get, ◌≡◌, ℕ}
 use Rattle.std.proofs.Common.{ap, sym, ◌∙◌}
 use Rattle.decl_table.specs.declared.name_node.NameNode.TheInside.{Inside}
 use Rattle.decl_table.specs.Private.NameNodeView.{seen_names}

@@ -1,22 +1,20 @@
 -- A prepared edit makes the table of declarations that of the program after it: its items, its headings, its uses, and the
 -- names of its nodes.
-use Rattle.std.specs.Prelude.{◌≡◌, ◌⊎◌, refl, ℕ, Bool, true, false, ◌||◌, List, [], bytes_eq, length, nat_lt, Option, None, Some, option_map}
+use Rattle.std.specs.Prelude.{◌≡◌, ◌⊎◌, refl, ℕ, Bool, true, false, ◌||◌, List, [], bytes_eq, length, nat_lt, Option, None}
 use Rattle.std.specs.Map.{lookup}
-use Rattle.std.proofs.Common.{ap, sym, ◌∙◌, subst, inl, inr, true≢false}
+use Rattle.std.proofs.Common.{ap, sym, ◌∙◌, subst, inl, inr}
 use Rattle.std.proofs.lemmas.Option.{none-some}
 use Rattle.template_tree.specs.declared.change.Change.{Change}
-use Rattle.template_tree.specs.declared.change.What.{What}
-use Rattle.template_tree.specs.Checks.Environment.{Sig, Signature}
 use Rattle.template_tree.specs.Checks.ProgramMaps.{ScopeTells}
 use Rattle.template_tree.specs.Laws.RoomLaws.{NodesIgnoreRoom, SlotsIgnoreRoom}
 use Rattle.template_tree.specs.Laws.TreeLaws.{SlotEditIsPathEdit}
 use Rattle.template_tree.specs.Programs.PlainTree.{Forest, PlainTree}
 use Rattle.template_tree.specs.Programs.Tree.{IsTree}
-use Rattle.decl_table.specs.Agreement.{IsDeclsBefore, IsDeclsOf}
+use Rattle.decl_table.specs.Agreement.{IsDeclsBefore}
 use Rattle.decl_table.specs.DeclEdit.{IsDeclsAfter, PlainDeclEdit, changed_or, items_changed, names_mended}
 use Rattle.decl_table.specs.Names.{names_of}
 use Rattle.decl_table.specs.PlainDecls.{PlainDecls, PlainHeadings, PlainUses, mentions_of, slot_of}
-use Rattle.decl_table.specs.Private.ChangeBefore.{IsBeforeChange, IsEditOf, IsNewNode, old_node, part_of, places_of}
+use Rattle.decl_table.specs.Private.ChangeBefore.{IsEditOf, IsNewNode, old_node, part_of, places_of}
 use Rattle.decl_table.specs.Private.HeadingChangesView.{IsHeadingNoted, MayBeNoted, stands_in}
 use Rattle.decl_table.specs.Private.ItemChangeView.{items_become, procedure_left}
 use Rattle.decl_table.specs.Private.PlainNameNode.{PlainNameNode}

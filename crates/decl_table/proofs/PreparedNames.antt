@@ -1,6 +1,6 @@
 -- Edits that were prepared for the names that are kept of a tree: each makes them those of the tree after its change, and
 -- can be put in place.
-use Rattle.std.specs.Prelude.{◌≡◌, refl, ℕ, zero, suc, ◌+◌, ◌<◌, ◌≤◌, ◌==◌, Bool, true, false, if◌then◌else◌, List, [], ◌∷◌, map, Option, Some, None, option_map, Result, Ok, Err, IfOk}
+use Rattle.std.specs.Prelude.{◌≡◌, refl, ℕ, zero, suc, ◌+◌, ◌<◌, ◌≤◌, ◌==◌, Bool, true, false, if◌then◌else◌, List, [], ◌∷◌, Option, Some, None, option_map}
 use Rattle.std.proofs.Common.{ap, sym, ◌∙◌, subst, arith}
 use Rattle.std.proofs.lemmas.Option.{none-some}
 use Rattle.plcs_grammar.specs.PlainPhrase.{PlainPhrase}
@@ -15,8 +15,8 @@ use Rattle.template_tree.specs.Programs.Part.{with_part}
 use Rattle.template_tree.specs.Programs.PlainTree.{Forest, Label, PlainNode, PlainTree, roomless, roomless_node}
 use Rattle.template_tree.specs.Programs.Slots.{times}
 use Rattle.template_tree.specs.Programs.Tree.{IsTree}
-use Rattle.decl_table.specs.DeclEdit.{MayMendName, MayMendNames, NameMend, PlainNameEdit, names_mended}
-use Rattle.decl_table.specs.Names.{NameForest, NameLabel, kept_names, names_of}
+use Rattle.decl_table.specs.DeclEdit.{MayMendNames, NameMend, PlainNameEdit, names_mended}
+use Rattle.decl_table.specs.Names.{NameForest, NameLabel, names_of}
 use Rattle.decl_table.specs.Private.ChangeBefore.{AreNamesBefore, IsBeforeChange}
 use Rattle.decl_table.specs.Private.NamePaths.{count_beside, name_count, name_depth, name_times, names_at}
 use Rattle.decl_table.specs.Private.PlainNameNode.{PlainNameNode, name_node_of, node_names}

@@ -1,5 +1,5 @@
 -- Which phrases are due doesn't depend on the room of lists: none of the places and names of which it is told does.
-use Rattle.std.proofs.Common.{◌≡◌, ◌↔◌, ℕ, ◌+◌, Bool, true, false, List, [], ◌++◌, Option, Some, None, refl, ap, sym, subst, ◌∙◌, option_map}
+use Rattle.std.proofs.Common.{◌≡◌, ◌↔◌, ℕ, Bool, true, false, List, [], ◌++◌, Option, Some, None, refl, ap, sym, subst, ◌∙◌, option_map}
 use Rattle.std.specs.Prelude.{◌==◌, ◌||◌, if◌then◌else◌, Contains, flat_map}
 use Rattle.std.specs.Option.{option_map_or, option_or}
 use Rattle.plcs_base.specs.declared.place.PhraseAt.{PhraseAt}

@@ -6,16 +6,9 @@ use Rattle.std.specs.Map.{lookup, values_of}
 use Rattle.indexmap.specs.IndexMap.{set_value_at}
 use Rattle.plcs_base.specs.declared.place.PhraseAt.{PhraseAt}
 use Rattle.decl_table.specs.PlainDecls.{PlainUses, mentions_of}
-use Rattle.decl_table.specs.Private.UsesView.{Adds, AreSettled, IsSettled, is_among}
+use Rattle.decl_table.specs.Private.UsesView.{Adds, AreSettled, IsSettled, IsSettling, is_among}
 use Rattle.std.proofs.lemmas.Map.Views.{Contains-from_any, list_any-from_Contains}
 use Rattle.plcs_base.specs.PlaceOrder.{places_equiv, same_place}
-
--- the first so many of them are settled, and the others are as they were
-abbrev pub IsSettling : ℕ → (first now : PlainUses) → Type 0
-IsSettling zero first now = now ≡ first
-IsSettling (suc k) [] now = now ≡ []
-IsSettling (suc k) (entry ∷ first) [] = ⊥
-IsSettling (suc k) (entry ∷ first) (other ∷ now) = (other.0 ≡ entry.0) × IsSettled entry.1 other.1 × IsSettling k first now
 
 -- one more is settled
 next : (k : ℕ) (first now : PlainUses) (places settled : List PhraseAt) → slice_get (values_of now) k ≡ Some places → IsSettled places settled

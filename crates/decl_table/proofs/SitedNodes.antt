@@ -1,5 +1,5 @@
 -- The slot of a node at a path stands among the nodes.
-use Rattle.std.proofs.Common.{◌≡◌, ℕ, zero, suc, ◌+◌, ◌≤◌, List, [], ◌∷◌, Option, Some, None, ap, ◌∙◌, arith}
+use Rattle.std.proofs.Common.{◌≡◌, ℕ, zero, suc, ◌≤◌, List, [], ◌∷◌, Option, Some, None, ap, ◌∙◌, arith}
 use Rattle.std.proofs.lemmas.Option.{none-some}
 use Rattle.template_tree.specs.Positions.Path.{node_at}
 use Rattle.template_tree.specs.Programs.PlainTree.{Forest, PlainNode}

@@ -1,12 +1,12 @@
 -- The node in a slot before an edit and after it.
-use Rattle.std.specs.Prelude.{◌≡◌, refl, ℕ, zero, suc, ◌+◌, ◌<◌, ◌≤◌, ◌==◌, nat_lt, cond, Bool, true, false, if◌then◌else◌, List, [], ◌∷◌, find, Option, Some, None, option_map}
-use Rattle.std.proofs.Common.{ap, sym, ◌∙◌, subst, arith}
+use Rattle.std.specs.Prelude.{◌≡◌, refl, ℕ, zero, suc, ◌+◌, ◌≤◌, ◌==◌, nat_lt, cond, Bool, true, false, if◌then◌else◌, List, [], ◌∷◌, find, Option, Some, None, option_map}
+use Rattle.std.proofs.Common.{ap, sym, ◌∙◌, arith}
 use Rattle.std.proofs.Math.Bool.{false≢true}
 use Rattle.std.proofs.lemmas.Bool.{eq-eqb, eqb-true}
 use Rattle.std.proofs.lemmas.Option.{none-some}
 use Rattle.template_tree.specs.Edits.Edit.{edit_slot, procedure_of}
 use Rattle.template_tree.specs.Positions.Path.{node_at, slot_at}
-use Rattle.template_tree.specs.Programs.PlainTree.{Forest, Label, PlainNode, forest, join, nodes}
+use Rattle.template_tree.specs.Programs.PlainTree.{Forest, Label, PlainNode, forest, nodes}
 use Rattle.template_tree.specs.Programs.Slots.{times}
 
 -- what is there, or else the number

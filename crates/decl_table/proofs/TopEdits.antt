@@ -1,9 +1,8 @@
 -- Where main or a procedure was changed as a whole, or a part of its heading was set: its effective items and headings stay
 -- of a name that is bound neither in what stood there nor in what stands there.
-use Rattle.std.proofs.Common.{◌≡◌, ℕ, ◌≤◌, Bool, true, false, List, [], ◌∷◌, Option, Some, None, refl, ap, sym, subst, ◌∙◌, ◌⊎◌, inl, inr, eq-eqb, eqb-true, true≢false}
-use Rattle.std.specs.Prelude.{◌==◌, ◌&&◌, ◌||◌, flat_map, slice_get}
+use Rattle.std.proofs.Common.{◌≡◌, ℕ, Bool, true, false, List, [], ◌∷◌, Some, None, refl, ap, sym, subst, ◌∙◌, ◌⊎◌, inl, inr, eq-eqb, eqb-true, true≢false}
+use Rattle.std.specs.Prelude.{◌==◌, ◌&&◌, ◌||◌, flat_map}
 use Rattle.std.proofs.lemmas.Option.{none-some}
-use Rattle.plcs_grammar.specs.PlainPhrase.{PlainPhrase}
 use Rattle.template_tree.specs.declared.change.What.{What}
 use Rattle.template_tree.specs.Checks.Environment.{Items, Sig, item_named}
 use Rattle.template_tree.specs.Laws.CheckLaws.{ChecksIgnoreRoom}
@@ -13,7 +12,6 @@ use Rattle.template_tree.specs.Positions.Path.{node_at}
 use Rattle.template_tree.specs.Programs.Part.{with_part}
 use Rattle.template_tree.specs.Programs.PlainTree.{Forest, Label, PlainNode, PlainTree}
 use Rattle.template_tree.specs.Programs.Program.{sort_of}
-use Rattle.template_tree.specs.Programs.Slots.{times}
 use Rattle.template_tree.specs.Programs.Tree.{IsTree}
 use Rattle.decl_table.specs.DeclEdit.{PlainNameEdit}
 use Rattle.decl_table.specs.Due.{binds_at, binds_names, bound_names, changed_names, part_names}

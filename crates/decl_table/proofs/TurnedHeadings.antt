@@ -1,25 +1,23 @@
 -- Where an edit was made inside main or a procedure, the effective heading of a name is another one exactly where the
 -- procedure has it, and a parameter in it gets another kind.
-use Rattle.std.proofs.Common.{◌≡◌, ◌≢◌, ℕ, zero, suc, ◌≤◌, Bool, true, false, List, [], ◌∷◌, Option, Some, None, refl, ap, sym, subst, ◌∙◌, true≢false}
+use Rattle.std.proofs.Common.{◌≡◌, ◌≢◌, ℕ, suc, ◌≤◌, Bool, true, false, List, [], ◌∷◌, Option, Some, None, refl, ap, sym, subst, ◌∙◌, true≢false}
 use Rattle.std.specs.Prelude.{◌&&◌, bytes_eq, if◌then◌else◌, option_and_then, option_map, slice_get}
 use Rattle.std.specs.Option.{option_or}
 use Rattle.std.proofs.lemmas.Option.{none-some, same_Some}
 use Rattle.plcs_base.specs.declared.declared.Declared.{Declared}
-use Rattle.plcs_base.specs.declared.value.Kind.{Kind}
 use Rattle.template_tree.specs.Checks.Environment.{Heading, Items, Sig, Signature, heading_of, items_inside, may_be_called, parameter_kinds, signature_for, signature_of}
 use Rattle.template_tree.specs.Laws.CheckLaws.{ChecksIgnoreRoom}
-use Rattle.template_tree.specs.Programs.PlainTree.{Forest, Label, PlainNode, PlainTree, forest, nodes, roomless, roomless_node}
-use Rattle.template_tree.specs.Programs.Slots.{times}
+use Rattle.template_tree.specs.Programs.PlainTree.{Forest, Label, PlainNode, PlainTree, forest, nodes}
 use Rattle.template_tree.specs.Programs.Tree.{IsTree}
 use Rattle.decl_table.specs.PlainDecls.{PlainHeadings, slot_of}
 use Rattle.decl_table.specs.Private.AffectedView.{HeadingTurns, kind_in}
-use Rattle.decl_table.proofs.AffectedHeadings.{OwnHeading, kind_by, kinds_told}
-use Rattle.decl_table.proofs.AffectedNames.{HeadingDiffers, headed_inside}
+use Rattle.decl_table.proofs.AffectedHeadings.{kind_by, kinds_told}
+use Rattle.decl_table.proofs.AffectedNames.{headed_inside}
 use Rattle.decl_table.proofs.EditProcedures.{IsEditedItem, edited_item, item_alike, same_item}
 use Rattle.decl_table.proofs.EditedHeadings.{deep_at, headed, headed_alike}
 use Rattle.decl_table.proofs.EditedNodes.{HasGapOf}
 use Rattle.decl_table.proofs.EditedScopes.{items_alike, items_there}
-use Rattle.decl_table.proofs.Gaps.{Gap, filled}
+use Rattle.decl_table.proofs.Gaps.{filled}
 use Rattle.decl_table.proofs.PreparedNames.{same_times}
 
 -- ---- who has an effective heading

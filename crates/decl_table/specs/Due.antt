@@ -12,7 +12,7 @@ use Rattle.template_tree.specs.Checks.Environment.{Items, Sig, item_named, proce
 use Rattle.template_tree.specs.Checks.Mention.{mentioned, mentions, phrase_at}
 use Rattle.template_tree.specs.Positions.Place.{site}
 use Rattle.template_tree.specs.Programs.Part.{part_at}
-use Rattle.template_tree.specs.Programs.PlainTree.{Forest, Label}
+use Rattle.template_tree.specs.Programs.PlainTree.{Forest}
 use Rattle.template_tree.specs.Programs.Program.{sort_of}
 
 -- ---- what stands where an edit changed a program

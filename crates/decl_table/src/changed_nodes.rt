@@ -85,9 +85,16 @@ impl ChangedNodes<'_> {
         ensures { IfOk result (IsSettled (spots_of self.now.part (option_copied self.now.old))) }
     {
         let mut places = MentionList::new(alloc);
-        add_places(self.part, self.old, &mut places)?;
-        places.settle();
-        Ok(places)
+        match add_places(self.part, self.old, &mut places) {
+            Ok(()) => {
+                places.settle();
+                Ok(places)
+            }
+            Err(OutOfMemory) => {
+                drop(places);
+                Err(OutOfMemory)
+            }
+        }
     }
 
     /// Adds the places of the phrases that came.

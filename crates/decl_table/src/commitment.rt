@@ -11,13 +11,16 @@ impl Decls {
         ensures { IsPutInPlace edit self.old self.new }
     {
         let DeclEdit {
+            due,
+            gone,
             mut table,
             items,
             headings,
             uses,
             names,
-            ..
         } = edit;
+        drop(due);
+        drop(gone);
         self.scopes.change(items, &mut table.scopes);
         drop(table);
         self.headings.put_in_place(headings);

@@ -24,6 +24,7 @@ use plcs_base::{Declared, Name, OutOfMemory, PhraseAt, Scope, Slot};
 use plcs_grammar::NodeKind;
 use std::alloc::Global;
 use std::marker::Model;
+use std::mem;
 use template_tree::{Node, Tree, items_are_nodes, path_of_item};
 
 /// The table of declarations: the effective items of each procedure, the effective headings, and the phrases that
@@ -107,9 +108,9 @@ impl Decls {
         ensures names { OnOk result (self.new.names ≡ names_of tree.now.items) }
     {
         let names = NameNode::of_program(alloc, tree)?;
-        let uses = Uses::of(alloc, &names)?;
-        self.names = names;
-        self.uses = uses;
+        drop(mem::replace(&mut self.names, names));
+        let uses = Uses::of(alloc, &self.names)?;
+        drop(mem::replace(&mut self.uses, uses));
         Ok(())
     }
 
@@ -206,8 +207,8 @@ impl Decls {
         requires few { count procedure.now.inner < most_slots }
         ensures { OnOk result (TakesProcedure procedure.now self.old self.new) }
     {
-        self.scopes
-            .put(procedure.slot(), Items::of(alloc, procedure)?)?;
+        let items = Items::of(alloc, procedure)?;
+        self.scopes.put(procedure.slot(), items)?;
         self.headings.take(procedure)
     }
 }

@@ -98,6 +98,7 @@ impl Headings {
         while let Some(change) = rest.pop() {
             self.put_change(change);
         }
+        drop(rest);
     }
 
     /// Puts one prepared change in place. It takes no memory.

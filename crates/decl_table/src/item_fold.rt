@@ -41,14 +41,14 @@ impl Items {
         requires few { count procedure.now.inner < most_slots }
         ensures { IfOk result (λ items. items ≡ items_inside procedure.now.inner) }
     {
-        items_are_nodes();
         let mut fold = ItemFold::new(alloc);
-        let mut k = 0;
-        while let Some(node) = procedure.child(k) {
-            fold.declare_all(node)?;
-            k += 1;
+        match fold.declare_inside(procedure) {
+            Ok(()) => Ok(fold.end()),
+            Err(OutOfMemory) => {
+                drop(fold);
+                Err(OutOfMemory)
+            }
         }
-        Ok(fold.end())
     }
 }
 
@@ -69,6 +69,21 @@ impl ItemFold {
     {
         let ItemFold { items, .. } = self;
         items
+    }
+
+    /// Takes the items that the nodes of the procedure declare, as far as they are effective, where none is taken yet.
+    fn declare_inside(&mut self, procedure: &Node) -> Result<(), OutOfMemory>
+        requires few { count procedure.now.inner < most_slots }
+        requires none { self.old ≡ [] }
+        ensures { OnOk result (self.new ≡ items_inside procedure.now.inner) }
+    {
+        items_are_nodes();
+        let mut k = 0;
+        while let Some(node) = procedure.child(k) {
+            self.declare_all(node)?;
+            k += 1;
+        }
+        Ok(())
     }
 
     /// Takes the items that the node declares, as far as they are effective, and says what is wrong with the first

@@ -124,9 +124,35 @@ impl Sources<'_> {
             → has_name (mentioned (plain_phrase phrase.now)) name ≡ true
             → KnowsHeading table.new self.now.tree.now.items name) }
     {
-        let names = NameList::of(alloc, phrase)?;
-        self.know_items(alloc, table, procedure, names.as_slice())?;
-        self.know_headings(table, names.as_slice())
+        let Ok(names) = NameList::of(alloc, phrase) else {
+            return Err(OutOfMemory);
+        };
+        let known = self.know_these(alloc, table, procedure, names.as_slice());
+        drop(names);
+        known
+    }
+
+    /// Gathers the items of the procedure and the headings that have these names.
+    fn know_these(
+        &self,
+        alloc: Global,
+        table: &mut Decls,
+        procedure: Slot,
+        names: &[Name],
+    ) -> Result<(), OutOfMemory>
+        requires tree { IsTree self.now.tree.now }
+        requires source { IsSource self.now.before.now self.now.headings.now self.now.items self.now.tree.now.items }
+        requires gathering { IsGathering self.now.items self.now.tree.now.items table.old }
+        ensures learns { OnOk result (Learns self.now.tree.now.items table.old table.new) }
+        ensures own { OnOk result (KeepsOwn self.now.items table.old table.new) }
+        ensures items { OnOk result (KnowsItems table.new self.now.tree.now.items procedure.0 names.now) }
+        ensures headings { OnOk result ((name : List ℕ) → has_name names.now name ≡ true
+            → KnowsHeading table.new self.now.tree.now.items name) }
+    {
+        let Ok(()) = self.know_items(alloc, table, procedure, names) else {
+            return Err(OutOfMemory);
+        };
+        self.know_headings(table, names)
     }
 
     /// Gathers the items of the parameters of the procedure that is called by the name, if there is one.
@@ -320,7 +346,9 @@ pub(crate) fn take_items(
         return Ok(ItemChange::Gone(change.slot));
     };
     let slot = node.slot();
-    let items = Items::of(alloc, node)?;
+    let Ok(items) = Items::of(alloc, node) else {
+        return Err(OutOfMemory);
+    };
     table.put_items(slot, items)?;
     Ok(ItemChange::Set(slot))
 }

@@ -49,7 +49,9 @@ impl ListOffences {
         ensures { OnOk result (self.new ≡ list_offences [] procedure.now.inner) }
     {
         let mut fold = ItemFold::new(alloc);
-        self.note_all(&mut fold, procedure)
+        let noted = self.note_all(&mut fold, procedure);
+        drop(fold);
+        noted
     }
 
     /// Notes the offences of the nodes of the procedure, whose items are taken one after the other, where nothing is

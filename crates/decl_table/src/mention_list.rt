@@ -1,7 +1,8 @@
 //! Lists of places of phrases, in order and mended.
-ghost use Rattle.std.specs.Prelude.{◌≡◌, ◌==◌, ◌∷◌, ◌++◌, [], IfOk, OnOk, Contains, ◌↔◌, length};
+ghost use Rattle.std.specs.Prelude.{◌≡◌, ◌==◌, ◌∷◌, ◌++◌, [], IfOk, List, OnOk, length};
 ghost use Rattle.std.specs.List.Sorted.{IsStrictlySortedBy};
 ghost use Rattle.plcs_base.specs.Mark.{phrase_cmp};
+ghost use Rattle.plcs_base.specs.declared.place.PhraseAt.{PhraseAt};
 ghost use Rattle.decl_table.specs.DeclEdit.{changed_or};
 ghost use Rattle.decl_table.specs.Private.UsesView.{IsMended, IsSettled, IsWith, IsWithout, earlier_places, later_places};
 
@@ -107,16 +108,64 @@ impl MentionList {
         requires came { IsStrictlySortedBy phrase_cmp came.now }
         ensures { IfOk result (λ mended. IsMended before.now went.now came.now (changed_or mended before.now)) }
     {
-        let out = MentionList::without(alloc, went, came)?;
-        let more = MentionList::without(alloc, came, went)?;
+        let Ok(out) = MentionList::without(alloc, went, came) else {
+            return Err(OutOfMemory);
+        };
+        let mended = MentionList::mended_without(alloc, before, went, came, out.as_slice());
+        drop(out);
+        mended
+    }
+
+    /// The same, where these are the places that go: those that went and didn't come.
+    fn mended_without(
+        alloc: Global,
+        before: &[PhraseAt],
+        went: &[PhraseAt],
+        came: &[PhraseAt],
+        out: &[PhraseAt],
+    ) -> Result<Option<MentionList>, OutOfMemory>
+        requires before { IsStrictlySortedBy phrase_cmp before.now }
+        requires went { IsStrictlySortedBy phrase_cmp went.now }
+        requires came { IsStrictlySortedBy phrase_cmp came.now }
+        requires out { IsWithout went.now came.now out.now }
+        ensures { IfOk result (λ mended. IsMended before.now went.now came.now (changed_or mended before.now)) }
+    {
+        let Ok(more) = MentionList::without(alloc, came, went) else {
+            return Err(OutOfMemory);
+        };
+        let mended = MentionList::mended_by(alloc, before, out, more.as_slice());
+        drop(more);
+        mended
+    }
+
+    /// What is left of the places, which are in order, where these go and those come in, each in order too, or `None`
+    /// where they stay.
+    fn mended_by(
+        alloc: Global,
+        before: &[PhraseAt],
+        out: &[PhraseAt],
+        more: &[PhraseAt],
+    ) -> Result<Option<MentionList>, OutOfMemory>
+        requires before { IsStrictlySortedBy phrase_cmp before.now }
+        requires out { IsStrictlySortedBy phrase_cmp out.now }
+        requires more { IsStrictlySortedBy phrase_cmp more.now }
+        ensures { (went came : List PhraseAt) → IsWithout went came out.now → IsWithout came went more.now
+            → IfOk result (λ mended. IsMended before.now went came (changed_or mended before.now)) }
+    {
         if out.is_empty() {
             if more.is_empty() {
                 return Ok(None);
             }
         }
-        let rest = MentionList::without(alloc, before, out.as_slice())?;
-        let places = MentionList::with_more(alloc, rest.as_slice(), more.as_slice())?;
-        Ok(Some(places))
+        let Ok(rest) = MentionList::without(alloc, before, out) else {
+            return Err(OutOfMemory);
+        };
+        let places = MentionList::with_more(alloc, rest.as_slice(), more);
+        drop(rest);
+        match places {
+            Ok(places) => Ok(Some(places)),
+            Err(OutOfMemory) => Err(OutOfMemory),
+        }
     }
 
     /// The places, which are in order, but for these, which are in order too. The stretches between those that are
@@ -131,14 +180,24 @@ impl MentionList {
         ensures { IfOk result (IsWithout places.now out.now) }
     {
         let mut list = MentionList::with_room(alloc, places.len())?;
+        list.add_without(places, out).and(Ok(list))
+    }
+
+    /// Puts the places, which are in order, but for these, which are in order too, into the list, which has none yet.
+    fn add_without(&mut self, places: &[PhraseAt], out: &[PhraseAt]) -> Result<(), OutOfMemory>
+        requires none { self.old ≡ [] }
+        requires places { IsStrictlySortedBy phrase_cmp places.now }
+        requires out { IsStrictlySortedBy phrase_cmp out.now }
+        ensures { OnOk result (IsWithout places.now out.now self.new) }
+    {
         let mut rest = places;
         for at in out {
             let (front, back) = split_around(rest, *at);
-            list.add_all(front)?;
+            self.add_all(front)?;
             rest = back;
         }
-        list.add_all(rest)?;
-        Ok(list)
+        self.add_all(rest)?;
+        Ok(())
     }
 
     /// The places, which are in order, with these, which are in order too; each stands there once. The stretches
@@ -153,15 +212,25 @@ impl MentionList {
         ensures { IfOk result (IsWith places.now more.now) }
     {
         let mut list = MentionList::with_room(alloc, places.len().saturating_add(more.len()))?;
+        list.add_with(places, more).and(Ok(list))
+    }
+
+    /// Puts the places, which are in order, with these, which are in order too, into the list, which has none yet.
+    fn add_with(&mut self, places: &[PhraseAt], more: &[PhraseAt]) -> Result<(), OutOfMemory>
+        requires none { self.old ≡ [] }
+        requires places { IsStrictlySortedBy phrase_cmp places.now }
+        requires more { IsStrictlySortedBy phrase_cmp more.now }
+        ensures { OnOk result (IsWith places.now more.now self.new) }
+    {
         let mut rest = places;
         for at in more {
             let (front, back) = split_around(rest, *at);
-            list.add_all(front)?;
-            list.push(*at)?;
+            self.add_all(front)?;
+            self.push(*at)?;
             rest = back;
         }
-        list.add_all(rest)?;
-        Ok(list)
+        self.add_all(rest)?;
+        Ok(())
     }
 }
 

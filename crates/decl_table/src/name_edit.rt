@@ -1,19 +1,23 @@
 //! Edits of the names of nodes, prepared so that putting them in place takes no memory.
-ghost use Rattle.std.specs.Prelude.{◌≡◌, ◌≤◌, IfOk, IfSome, IsSome, option_map};
+ghost use Rattle.std.specs.Prelude.{◌≡◌, ◌<◌, ◌≤◌, IfOk, IfSome, IsSome, option_map};
 ghost use Rattle.template_tree.specs.Positions.Path.{slot_at};
+ghost use Rattle.template_tree.specs.Programs.Limit.{most_slots};
 ghost use Rattle.template_tree.specs.Programs.PlainTree.{PlainTree};
+ghost use Rattle.template_tree.specs.Programs.Program.{IsSubtree};
+ghost use Rattle.template_tree.specs.Programs.Slots.{count};
 ghost use Rattle.template_tree.specs.Programs.Tree.{IsTree};
 ghost use Rattle.template_tree.specs.declared.change.What.{What};
 ghost use Rattle.decl_table.specs.DeclEdit.{MayMendNames, names_mended};
 ghost use Rattle.decl_table.specs.Names.{names_of};
 ghost use Rattle.decl_table.specs.Private.ChangeBefore.{AreNamesBefore, IsBeforeChange, IsEditOf, IsNewNode, old_node};
+ghost use Rattle.decl_table.specs.Private.PlainNameNode.{name_node_of};
 ghost use Rattle.template_tree.specs.Edits.Edit.{Differs};
 
 use crate::name_node::{NameNode, NameNodes};
 use plcs_base::{OutOfMemory, Slot};
 use std::alloc::Global;
 use std::marker::Model;
-use template_tree::{Change, Path, Tree, What, room_is_not_shown, slot_edit_is_path_edit};
+use template_tree::{Change, Node, Path, Tree, What, room_is_not_shown, slot_edit_is_path_edit};
 
 /// An edit that was prepared for the names of nodes, which contracts see as plain data.
 #[derive(Drop)]
@@ -211,8 +215,10 @@ impl NameNode {
         let Some((k, rest)) = path.split_first() else {
             unreachable!()
         };
-        let room = NameRoom::of(alloc, self.count_beside(*k as usize, rest) + 1)?;
-        let item = NameNode::of(alloc, node)?;
+        let nodes = self.count_beside(*k as usize, rest) + 1;
+        let Ok((item, room)) = with_room(alloc, node, nodes) else {
+            return Err(OutOfMemory);
+        };
         Ok(NameEdit {
             path,
             mend: NameMend::Add(item, room),
@@ -241,6 +247,25 @@ impl NameNode {
         NameEdit {
             path,
             mend: NameMend::Drop,
+        }
+    }
+}
+
+/// What is kept of the node and of the nodes inside it, with room for so many nodes.
+fn with_room(alloc: Global, node: &Node, nodes: usize) -> Result<(NameNode, NameRoom), OutOfMemory>
+    requires subtree { IsSubtree node.now }
+    requires few { count node.now.inner < most_slots }
+    ensures item { IfOk result (λ made. made.0 ≡ name_node_of node.now) }
+    ensures room { IfOk result (λ made. nodes ≤ made.1) }
+{
+    let Ok(room) = NameRoom::of(alloc, nodes) else {
+        return Err(OutOfMemory);
+    };
+    match NameNode::of(alloc, node) {
+        Ok(item) => Ok((item, room)),
+        Err(OutOfMemory) => {
+            drop(room);
+            Err(OutOfMemory)
         }
     }
 }

@@ -41,8 +41,7 @@ impl NameList {
         ensures { IfOk result (λ names. names ≡ kept_names (plain_phrase phrase.now)) }
     {
         let mut names = NameList::new(alloc);
-        names.add_phrase(phrase)?;
-        Ok(names)
+        names.add_phrase(phrase).and(Ok(names))
     }
 
     /// All the names of the list.
@@ -59,25 +58,40 @@ impl NameList {
         ensures { OnOk result (self.new ≡ self.old ++ reverse (mentioned (plain_phrase phrase.now))) }
     {
         match phrase {
-            Phrase::Assignment(target, value) => {
-                self.add_expr(value)?;
-                self.add_variable(target)
-            }
+            Phrase::Assignment(target, value) => self.add_assignment(target, value),
             Phrase::Condition(expr) => self.add_expr(expr),
             Phrase::Expression(expr) => self.add_expr(expr),
             Phrase::ExpressionList(exprs) => self.add_exprs(exprs),
             Phrase::VariableList(targets) => self.add_variables(targets),
             Phrase::Variable(name) => self.add(name),
-            Phrase::CallRef(name, arguments) => {
-                self.add_exprs(arguments)?;
-                self.add(name)
-            }
+            Phrase::CallRef(name, arguments) => self.add_call(name, arguments),
             Phrase::DeclaredList(items) => self.add_items(items),
             Phrase::ProcedureName(name) => self.add(name),
             Phrase::NameList(names) => self.add_names(names),
             Phrase::Length(_) => Ok(()),
             Phrase::CommentText(_) => Ok(()),
         }
+    }
+
+    /// Adds the names in an assignment, which are those in its target and its value.
+    fn add_assignment(&mut self, target: &VarRef, value: &Expr) -> Result<(), OutOfMemory>
+        ensures { OnOk result (self.new ≡ self.old
+            ++ reverse (reference_names (plain_var_ref target.now) ++ names_in (plain_expr value.now))) }
+    {
+        let Ok(()) = self.add_expr(value) else {
+            return Err(OutOfMemory);
+        };
+        self.add_variable(target)
+    }
+
+    /// Adds the name that is called and the names in the arguments.
+    fn add_call(&mut self, name: &Name, arguments: &[Expr]) -> Result<(), OutOfMemory>
+        ensures { OnOk result (self.new ≡ self.old ++ reverse (name.now ∷ names_in_all (plain_exprs arguments.now))) }
+    {
+        let Ok(()) = self.add_exprs(arguments) else {
+            return Err(OutOfMemory);
+        };
+        self.add(name)
     }
 
     /// Adds the names in an expression. A chain of operators is gone through in a loop, from its end on.

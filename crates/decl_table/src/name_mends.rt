@@ -7,6 +7,7 @@ ghost use Rattle.decl_table.specs.Private.PlainNameNode.{PlainNameNode, name_nod
 
 use crate::name_edit::{NameEdit, NameMend, NameRoom};
 use crate::name_node::NameNode;
+use std::mem;
 
 impl NameNode {
     /// Puts an edit in place that was prepared for the names inside this node. It takes no memory.
@@ -70,8 +71,9 @@ impl NameNode {
         let Some(item) = self.inner.get_mut(k) else {
             unreachable!()
         };
-        let NameNode { parts, .. } = other;
-        item.parts = parts;
+        let NameNode { parts, inner, .. } = other;
+        drop(inner);
+        drop(mem::replace(&mut item.parts, parts));
     }
 
     /// Puts a node before the one of this number inside this node; all go into the room.
@@ -92,6 +94,6 @@ impl NameNode {
         requires there { k < length (name_nodes self.old.inner) }
         ensures { self.new ≡ with_inside (remove (name_nodes self.old.inner) k) self.old }
     {
-        let _ = self.inner.remove(k);
+        drop(self.inner.remove(k));
     }
 }

@@ -18,6 +18,7 @@ use plcs_base::{OutOfMemory, Slot};
 use plcs_grammar::NodeKind;
 use std::alloc::Global;
 use std::marker::Model;
+use std::mem;
 use template_tree::{Node, Path, Tree, items_are_nodes, path_of_item, phrase_in};
 
 /// What is kept of a node: its slot, its kind, the names of the phrase in each part, and the nodes inside it.
@@ -96,30 +97,59 @@ impl NameNode {
         ensures inner { IfOk result (λ names. names.inner ≡ names_of tree.now.items) }
         ensures parts { IfOk result (λ names. names.label.parts ≡ []) }
     {
-        items_are_nodes();
         let mut root = NameNode::bare(alloc, Slot(0), NodeKind::Main);
+        root.push_items(alloc, tree).and(Ok(root))
+    }
+
+    /// Puts what is kept of main and the procedures of a tree inside this node, which has nothing inside it yet.
+    fn push_items(&mut self, alloc: Global, tree: &Tree) -> Result<(), OutOfMemory>
+        requires tree { IsTree tree.now }
+        requires none { self.old.inner ≡ NameForest.nil }
+        ensures inner { OnOk result (self.new.inner ≡ names_of tree.now.items) }
+        ensures label { OnOk result (self.new.label ≡ self.old.label) }
+    {
+        items_are_nodes();
         let mut k = 0;
         while let Some(item) = tree.node(&path_of_item(k)) {
-            root.push(NameNode::of(alloc, item)?)?;
+            let Ok(kept) = NameNode::of(alloc, item) else {
+                return Err(OutOfMemory);
+            };
+            self.push(kept)?;
             k += 1;
         }
-        Ok(root)
+        Ok(())
     }
 
     /// What is kept of the node and of the nodes inside it.
+    #[cycle(of)]
     pub(crate) fn of(alloc: Global, node: &Node) -> Result<NameNode, OutOfMemory>
         requires subtree { IsSubtree node.now }
         requires few { count node.now.inner < most_slots }
         ensures { IfOk result (λ names. names ≡ name_node_of node.now) }
     {
-        items_are_nodes();
         let mut names = NameNode::label_of(alloc, node)?;
+        names.push_inside(alloc, node).and(Ok(names))
+    }
+
+    /// Puts what is kept of the nodes inside a node inside this one, which has nothing inside it yet.
+    #[cycle(of)]
+    fn push_inside(&mut self, alloc: Global, node: &Node) -> Result<(), OutOfMemory>
+        requires subtree { IsSubtree node.now }
+        requires few { count node.now.inner < most_slots }
+        requires none { self.old.inner ≡ NameForest.nil }
+        ensures inner { OnOk result (self.new.inner ≡ names_of node.now.inner) }
+        ensures label { OnOk result (self.new.label ≡ self.old.label) }
+    {
+        items_are_nodes();
         let mut k = 0;
         while let Some(child) = node.child(k) {
-            names.push(NameNode::of(alloc, child)?)?;
+            let Ok(names) = NameNode::of(alloc, child) else {
+                return Err(OutOfMemory);
+            };
+            self.push(names)?;
             k += 1;
         }
-        Ok(names)
+        Ok(())
     }
 
     /// What is kept of the node alone, without the nodes inside it.
@@ -129,12 +159,22 @@ impl NameNode {
         ensures inner { IfOk result (λ names. names.inner ≡ NameForest.nil) }
     {
         let mut names = NameNode::bare(alloc, node.slot(), node.kind());
+        names.add_parts(alloc, node).and(Ok(names))
+    }
+
+    /// Keeps the names of what stands in the parts of the node, where none are kept yet.
+    fn add_parts(&mut self, alloc: Global, node: &Node) -> Result<(), OutOfMemory>
+        requires few { length node.now.label.parts < 256 }
+        requires none { self.old.label.parts ≡ [] }
+        ensures { OnOk result (self.new
+            ≡ record self.old { label = record self.old.label { parts = (name_node_of node.now).label.parts } }) }
+    {
         let mut part = 0;
         while let Some(_) = node.part(part) {
-            names.add_part(alloc, node, part)?;
+            self.add_part(alloc, node, part)?;
             part += 1;
         }
-        Ok(names)
+        Ok(())
     }
 
     /// Keeps the names of what stands in one more part of the node, a phrase or nothing.
@@ -142,11 +182,14 @@ impl NameNode {
         ensures { OnOk result (self.new
             ≡ with_last_part self.old (option_map kept_names (part_at node.now.label.parts part))) }
     {
-        let names = match phrase_in(node, part) {
-            Some(phrase) => Some(NameList::of(alloc, phrase)?),
-            None => None,
+        let Some(phrase) = phrase_in(node, part) else {
+            self.parts.push(None)?;
+            return Ok(());
         };
-        self.parts.push(names)?;
+        let Ok(names) = NameList::of(alloc, phrase) else {
+            return Err(OutOfMemory);
+        };
+        self.parts.push(Some(names))?;
         Ok(())
     }
 
@@ -383,7 +426,7 @@ impl NameNodes {
     {
         let mut list = room.list;
         append_reserved(&mut list, &mut self.list);
-        self.list = list;
+        drop(mem::replace(&mut self.list, list));
     }
 
     /// Puts what is kept of a node in the place of this number in the list.
@@ -391,7 +434,7 @@ impl NameNodes {
         requires there { k < length self.old.items }
         ensures { self.new ≡ with_name_node_set self.old k node }
     {
-        self.list[k] = node;
+        drop(mem::replace(&mut self.list[k], node));
     }
 
     /// Puts what is kept of a node into the list before the one of this number, into the room that is there.
@@ -400,7 +443,7 @@ impl NameNodes {
         requires room { 0 < self.old.spare }
         ensures { self.new ≡ with_name_node_inserted self.old k node }
     {
-        if let Err(_) = self.list.insert(k, node) {}
+        drop(self.list.insert(k, node));
     }
 
     /// Takes what is kept of the node of this number out of the list.

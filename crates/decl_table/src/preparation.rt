@@ -46,6 +46,7 @@ use crate::reach::Reach;
 use crate::uses::Uses;
 use plcs_base::{Name, OutOfMemory, PhraseAt, Slot};
 use std::alloc::Global;
+use std::mem;
 use template_tree::{
     Change, Node, Tree, What, checks_ignore_room_and_elision, heading_name, heading_parameters,
     items_are_nodes, path_of_item, room_is_not_shown, slot_edit_is_path_edit,
@@ -295,7 +296,9 @@ impl Decls {
         };
         let reach = Reach::of(&nodes, names.path());
         let procedure = procedure_after(tree, change, names.path());
-        self.find_changed(alloc, tree, &nodes, change, procedure, reach, pieces)?;
+        let Ok(()) = self.find_changed(alloc, tree, &nodes, change, procedure, reach, pieces) else {
+            return Err(OutOfMemory);
+        };
         Ok(())
     }
 
@@ -340,11 +343,11 @@ impl Decls {
         ensures headings { OnOk result (pieces.new.table.headings ≡ []) }
     {
         let uses = nodes.mended(alloc, &self.uses)?;
-        pieces.uses = uses;
+        drop(mem::replace(&mut pieces.uses, uses));
         let headings = heading_changes(alloc, tree, nodes, reach)?;
-        pieces.headings = headings;
+        drop(mem::replace(&mut pieces.headings, headings));
         let gone = nodes.gone(alloc)?;
-        pieces.gone = gone;
+        drop(mem::replace(&mut pieces.gone, gone));
         self.gather(alloc, nodes, change, procedure, reach, pieces)?;
         Ok(())
     }
@@ -390,7 +393,7 @@ impl Decls {
             procedure,
             reach,
         )?;
-        pieces.due = due;
+        drop(mem::replace(&mut pieces.due, due));
         Ok(())
     }
 
@@ -463,12 +466,34 @@ impl Decls {
             (items_in table.now.items change.now.procedure.0) (option_copied procedure.entry) name) }
     {
         let mut names = NameSet::new(alloc);
+        self.add_affected(alloc, nodes, table, change, procedure, reach, &mut names)
+            .and(Ok(names))
+    }
+
+    /// Adds the names that the edit affects, where none are there yet.
+    fn add_affected(
+        &self,
+        alloc: Global,
+        nodes: &ChangedNodes<'_>,
+        table: &Decls,
+        change: &Change,
+        procedure: Option<&Node>,
+        reach: Reach,
+        names: &mut NameSet,
+    ) -> Result<(), OutOfMemory>
+        requires none { names.old ≡ [] }
+        ensures { OnOk result ((name : List ℕ) → has_name names.new name ≡ true
+            ↔ IsGathered reach nodes.now.part (option_copied nodes.now.old) (option_copied nodes.now.new)
+            self.now.headings (items_in self.now.items change.now.procedure.0)
+            (items_in table.now.items change.now.procedure.0) (option_copied procedure.entry) name) }
+    {
         if !reach.has_lists() {
-            return Ok(names);
+            return Ok(());
         }
-        nodes.add_bound(&mut names)?;
-        self.add_inside(alloc, table, change, procedure, reach, &mut names)?;
-        Ok(names)
+        let Ok(()) = nodes.add_bound(names) else {
+            return Err(OutOfMemory);
+        };
+        self.add_inside(alloc, table, change, procedure, reach, names)
     }
 
     /// Adds the names that the edit affects beyond what it changed: those of items of the procedure in which it
@@ -616,12 +641,31 @@ fn heading_changes(
         → IsHeadingNoted tree.now.items changes name) }
 {
     let mut changes = HeadingChanges::none(alloc);
+    note_headings(&mut changes, tree, nodes, reach).and(Ok(changes))
+}
+
+/// Notes what becomes of the effective headings of the names that stand where a procedure had or has its name, if a
+/// heading was changed; nothing is noted yet.
+fn note_headings(
+    changes: &mut HeadingChanges,
+    tree: &Tree,
+    nodes: &ChangedNodes<'_>,
+    reach: Reach,
+) -> Result<(), OutOfMemory>
+    requires tree { IsTree tree.now }
+    requires empty { changes.old ≡ [] }
+    ensures none { OnOk result (has_heading reach ≡ false → changes.new ≡ []) }
+    ensures right { OnOk result (MayBeNoted tree.now.items changes.new) }
+    ensures noted { OnOk result (has_heading reach ≡ true → (name : List ℕ)
+        → (stands_in (option_copied nodes.now.old) name || stands_in (option_copied nodes.now.new) name) ≡ true
+        → IsHeadingNoted tree.now.items changes.new name) }
+{
     if !reach.has_heading() {
-        return Ok(changes);
+        return Ok(());
     }
-    note_heading(&mut changes, tree, nodes.old)?;
-    note_heading(&mut changes, tree, nodes.new)?;
-    Ok(changes)
+    note_heading(changes, tree, nodes.old)?;
+    note_heading(changes, tree, nodes.new)?;
+    Ok(())
 }
 
 /// Notes what the effective headings are of the names that stand where the procedure has its name, if it is there.

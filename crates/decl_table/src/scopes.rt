@@ -48,7 +48,7 @@ impl Scopes {
         ensures put { OnOk result (self.new.items ≡ insert self.old.items slot.0 items) }
         ensures succeeds { 0 < self.old.spare → IsOk result }
     {
-        self.procedures.insert(slot.0, items)?;
+        drop(self.procedures.insert(slot.0, items)?);
         Ok(())
     }
 
@@ -133,7 +133,7 @@ impl Scopes {
         match change {
             ItemChange::Stay => {}
             ItemChange::Gone(slot) => {
-                let _ = self.take(slot);
+                drop(self.take(slot));
             }
             ItemChange::Set(slot) => {
                 let Some(items) = other.take(slot) else {

@@ -5,9 +5,9 @@ ghost use Rattle.std.specs.Map.{keys_of, lookup};
 ghost use Rattle.decl_table.specs.DeclEdit.{changed_or};
 ghost use Rattle.std.specs.Option.{option_flatten};
 ghost use Rattle.template_tree.specs.Checks.Mention.{phrase_at};
-ghost use Rattle.decl_table.specs.PlainDecls.{mentions_of};
+ghost use Rattle.decl_table.specs.PlainDecls.{PlainUses, mentions_of};
 ghost use Rattle.decl_table.specs.Private.PlainNameNode.{HaveFewParts, kept_mention, kept_mentions, name_forest, node_names};
-ghost use Rattle.decl_table.specs.Private.UsesView.{AddsUnderNames, AddsNodes, AddsPart, AddsParts, AreOrdered, AreSettled, IsNameMended, IsSettled, MendsNames};
+ghost use Rattle.decl_table.specs.Private.UsesView.{AddsUnderNames, AddsNodes, AddsPart, AddsParts, AreOrdered, AreSettled, IsNameMended, IsSettled, IsSettling, MendsNames};
 
 use crate::mention_list::MentionList;
 use crate::name_node::NameNode;
@@ -51,9 +51,16 @@ impl Uses {
             → IsSettled (kept_mentions name (node_names node.now)) (mentions_of name uses.uses)) }
     {
         let mut uses = Uses::new(alloc);
-        uses.note_node(alloc, node)?;
-        uses.settle();
-        Ok(uses)
+        match uses.note_node(alloc, node) {
+            Ok(()) => {
+                uses.settle();
+                Ok(uses)
+            }
+            Err(OutOfMemory) => {
+                drop(uses);
+                Err(OutOfMemory)
+            }
+        }
     }
 
     /// The place of what stands in a part of the node, if a phrase does, under the names that it mentions.
@@ -63,9 +70,16 @@ impl Uses {
             (option_flatten (slice_get node.now.label.parts part))) (mentions_of name uses.uses)) }
     {
         let mut uses = Uses::new(alloc);
-        uses.note_part(alloc, node, part)?;
-        uses.settle();
-        Ok(uses)
+        match uses.note_part(alloc, node, part) {
+            Ok(()) => {
+                uses.settle();
+                Ok(uses)
+            }
+            Err(OutOfMemory) => {
+                drop(uses);
+                Err(OutOfMemory)
+            }
+        }
     }
 
     /// The places that are noted under the name, of the phrases that mention it.
@@ -107,10 +121,18 @@ impl Uses {
     fn settle(&mut self)
         ensures { AreSettled self.old.uses self.new.uses }
     {
-        for k in 0..self.places.len() {
-            if let Some(places) = self.places.get_index_mut(k) {
-                places.settle();
-            }
+        for k in 0..self.len() {
+            self.settle_at(k);
+        }
+    }
+
+    /// Puts the places that are noted under the name of this number, if there is one, in order of slot and part, each
+    /// once.
+    fn settle_at(&mut self, k: usize)
+        ensures { (first : PlainUses) → IsSettling k first self.old.uses → IsSettling (k + 1) first self.new.uses }
+    {
+        if let Some(places) = self.places.get_index_mut(k) {
+            places.settle();
         }
     }
 }
@@ -186,7 +208,7 @@ impl Uses {
             return Ok(());
         }
         let places = MentionList::of(alloc, at)?;
-        self.places.insert(name.copy(), places)?;
+        drop(self.places.insert(name.copy(), places)?);
         Ok(())
     }
 }
@@ -207,9 +229,28 @@ impl Uses {
             → IsNameMended self.now.uses went.now.uses came.now.uses mended.uses name) }
     {
         let mut mended = Uses::new(alloc);
-        mended.mend_names(alloc, went, self, went, came)?;
-        mended.mend_names(alloc, came, self, went, came)?;
-        Ok(mended)
+        mended.mend_all(alloc, self, went, came).and(Ok(mended))
+    }
+
+    /// Notes what is left of the uses of each name once phrases went and came, where nothing is noted yet.
+    fn mend_all(
+        &mut self,
+        alloc: Global,
+        before: &Uses,
+        went: &Uses,
+        came: &Uses,
+    ) -> Result<(), OutOfMemory>
+        requires none { self.old.uses ≡ [] }
+        requires before { AreOrdered before.now.uses }
+        requires went { AreOrdered went.now.uses }
+        requires came { AreOrdered came.now.uses }
+        ensures { OnOk result ((name : List ℕ)
+            → IsNameMended before.now.uses went.now.uses came.now.uses self.new.uses name) }
+    {
+        let Ok(()) = self.mend_names(alloc, went, before, went, came) else {
+            return Err(OutOfMemory);
+        };
+        self.mend_names(alloc, came, before, went, came)
     }
 
     /// Notes what is left of the uses of each name under which something is noted in these, once phrases went and
@@ -258,14 +299,21 @@ impl Uses {
             before.under(name),
             went.under(name),
             came.under(name),
-        )?;
+        );
         match mended {
-            None => Ok(()),
-            Some(places) => {
-                self.places.insert(name.copy(), places)?;
-                Ok(())
-            }
+            Ok(None) => Ok(()),
+            Ok(Some(places)) => self.insert(name, places),
+            Err(OutOfMemory) => Err(OutOfMemory),
         }
+    }
+
+    /// Notes these places under the name, in place of those that were.
+    fn insert(&mut self, name: &Name, places: MentionList) -> Result<(), OutOfMemory>
+        ensures { OnOk result ((other : List ℕ) → lookup (bytes_eq other) self.new.uses
+            ≡ (if bytes_eq name.now other then Some places else lookup (bytes_eq other) self.old.uses)) }
+    {
+        drop(self.places.insert(name.copy(), places)?);
+        Ok(())
     }
 
     /// Makes room for so many more names.
@@ -289,6 +337,7 @@ impl Uses {
         while let Some((name, list)) = rest.pop() {
             self.put(name, list);
         }
+        drop(rest);
     }
 
     /// Notes these places under the name, in place of those that were; nothing more is noted where there are none. It
@@ -300,11 +349,12 @@ impl Uses {
         ensures room { self.old.spare ≤ self.new.spare + 1 }
     {
         if list.is_empty() {
-            let _ = self.places.swap_remove(&name);
+            drop(self.places.swap_remove(&name));
+            drop(list);
             return;
         }
         match self.places.insert(name, list) {
-            Ok(_) => {}
+            Ok(other) => drop(other),
             Err(_) => unreachable!(),
         }
     }

@@ -216,6 +216,7 @@ impl<W> Marks<W> {
         while let Some((at, verdict)) = rest.pop() {
             self.put(at, verdict);
         }
+        drop(rest);
     }
 
     /// Puts the verdict of the phrase at the place in. It takes no memory.

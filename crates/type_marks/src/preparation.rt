@@ -52,7 +52,10 @@ impl<W: Work> Marks<W> {
         };
         match check_due(alloc, tree, edit.decls(), edit.due(), work) {
             Ok(checked) => Ok(MarkEdit { checked, gone }),
-            Err(_) => Err(OutOfMemory),
+            Err(OutOfMemory) => {
+                drop(gone);
+                Err(OutOfMemory)
+            }
         }
     }
 }
@@ -65,6 +68,7 @@ impl<W> Marks<W> {
     {
         let MarkEdit { checked, gone } = edit;
         self.take_out(gone.as_slice());
+        drop(gone);
         self.put_in(checked);
     }
 }

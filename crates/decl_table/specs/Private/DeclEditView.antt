@@ -1,6 +1,6 @@
 -- What an edit in memory that was prepared for a table of declarations is seen as.
-use Rattle.std.specs.Prelude.{◌≡◌, ℕ, List, Option, refl}
-use Rattle.std.specs.Coded.{Coded, code_by, coded×, coded_list, coded_option, coded_ℕ}
+use Rattle.std.specs.Prelude.{ℕ, List, Option, refl}
+use Rattle.std.specs.Coded.{Coded, code_by, coded×, coded_option, coded_ℕ}
 use Rattle.plcs_base.specs.declared.declared.Declared.{Declared}
 use Rattle.plcs_base.specs.declared.place.PhraseAt.{PhraseAt}
 use Rattle.decl_table.specs.DeclEdit.{PlainDeclEdit, PlainNameEdit}

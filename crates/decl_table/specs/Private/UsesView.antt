@@ -1,5 +1,5 @@
 -- The uses of names in memory, and what is noted of phrases.
-use Rattle.std.specs.Prelude.{◌≡◌, ◌↔◌, ◌⊎◌, ℕ, Bool, true, not, ◌&&◌, ◌||◌, List, bytes_eq, slice_get, Contains, Option, None, refl}
+use Rattle.std.specs.Prelude.{◌≡◌, ◌↔◌, ◌⊎◌, ℕ, Bool, true, not, ◌&&◌, ◌||◌, List, bytes_eq, slice_get, Contains, Option, None, refl, zero, suc, [], ◌∷◌}
 use Rattle.std.specs.Map.{lookup}
 use Rattle.std.specs.Coded.{Coded, code_by, coded×, coded_list, coded_ℕ}
 use Rattle.std.specs.List.{filter, list_any}
@@ -71,6 +71,13 @@ pub record IsSettled (old new : List PhraseAt) : Type 0 where
 -- the places of the uses of each name are settled
 abbrev pub AreSettled : PlainUses → PlainUses → Type 0
 AreSettled old new = (name : List ℕ) → IsSettled (mentions_of name old) (mentions_of name new)
+
+-- the places of the first so many of the uses are settled, and the others are as they were
+abbrev pub IsSettling : ℕ → (first now : PlainUses) → Type 0
+IsSettling zero first now = now ≡ first
+IsSettling (suc k) [] now = now ≡ []
+IsSettling (suc k) (entry ∷ first) [] = ⊥
+IsSettling (suc k) (entry ∷ first) (other ∷ now) = (other.0 ≡ entry.0) × IsSettled entry.1 other.1 × IsSettling k first now
 
 -- the places, of these, that come before a place
 abbrev pub earlier_places : PhraseAt → List PhraseAt → List PhraseAt

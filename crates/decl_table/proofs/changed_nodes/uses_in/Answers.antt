@@ -1,5 +1,5 @@
 use Rattle.std.specs.Option.{option_copied}
-use Rattle.std.proofs.Common.{◌≡◌, Bor, List, [], Option, ℕ, sym, subst}
+use Rattle.std.proofs.Common.{Bor, List, [], Option, ℕ, sym, subst}
 use Rattle.decl_table.specs.PlainDecls.{PlainUses, mentions_of}
 use Rattle.decl_table.specs.Private.ChangeBefore.{places_of}
 use Rattle.decl_table.specs.Private.PlainNameNode.{PlainNameNode}

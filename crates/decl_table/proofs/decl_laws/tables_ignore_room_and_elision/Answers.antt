@@ -1,9 +1,6 @@
-use Rattle.std.specs.Prelude.{◌≡◌}
-use Rattle.std.proofs.Common.{ap, sym, subst, ◌∙◌}
-use Rattle.template_tree.specs.Checks.Mention.{AreUses}
-use Rattle.template_tree.specs.Programs.PlainTree.{Forest, roomless}
-use Rattle.decl_table.specs.Agreement.{IsDeclsOf}
-use Rattle.decl_table.specs.PlainDecls.{PlainDecls, mentions_of}
+use Rattle.std.proofs.Common.{sym, ◌∙◌}
+use Rattle.template_tree.specs.Programs.PlainTree.{roomless}
+use Rattle.decl_table.specs.PlainDecls.{mentions_of}
 use Rattle.decl_table.proofs.EditedHeadings.{headed_roomless}
 use Rattle.decl_table.proofs.EditedScopes.{items_roomless}
 use Rattle.decl_table.proofs.EditedUses.{uses_alike}

@@ -1,4 +1,4 @@
-use Rattle.std.proofs.Common.{◌≡◌, ℕ, ◌∙◌, ◌+◌, ◌++◌, List, Some, append-nil, append_assoc, drop, refl, sym, ap, arith}
+use Rattle.std.proofs.Common.{◌≡◌, ℕ, ◌∙◌, ◌+◌, ◌++◌, List, append-nil, append_assoc, drop, refl, sym, ap, arith}
 use Rattle.std.proofs.lemmas.Option.{slice_get_within}
 use Rattle.plcs_base.specs.ListLeft.{left_from, none_left}
 use Rattle.plcs_base.specs.declared.place.PhraseAt.{PhraseAt}

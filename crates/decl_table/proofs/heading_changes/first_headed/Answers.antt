@@ -1,5 +1,5 @@
 -- The heading is that of the items that are left, until the first of them has it.
-use Rattle.std.specs.Prelude.{◌≡◌, ◌+◌, false, true, Some, None, cond, drop, option_map, slice_get}
+use Rattle.std.specs.Prelude.{◌≡◌, ◌+◌, Some, None, cond, drop, slice_get}
 use Rattle.std.specs.Option.{option_or}
 use Rattle.std.proofs.Common.{arith, ap, sym, ◌∙◌}
 use Rattle.std.proofs.lemmas.Option.{slice_get_within}

@@ -1,9 +1,7 @@
 -- Nothing is taken where no items change; else those of the procedure, if it is there.
-use Rattle.std.specs.Prelude.{◌≡◌, refl, ℕ, Bool, false, true, List, [], Option, Some, None, unwrap_or}
-use Rattle.std.specs.FinMap.{empty, get, insert}
+use Rattle.std.specs.Prelude.{Bool, true, List, Option, Some}
 use Rattle.std.specs.Option.{option_copied}
 use Rattle.std.proofs.Common.{Bor, ap, sym, ◌∙◌}
-use Rattle.plcs_base.specs.Scope.{ItemMap}
 use Rattle.plcs_base.specs.declared.declared.Declared.{Declared}
 use Rattle.template_tree.specs.Checks.Environment.{items_inside}
 use Rattle.template_tree.specs.Checks.ProgramMaps.{items_in}
@@ -32,19 +30,19 @@ pub returns-clause-items : goal.returns-clause-items
 returns-clause-items c =
     change_is c.slot-slot.result.0 c.in-Some.node.now.label.slot (items_in c.put_items.new.self.items c.slot-slot.result.0) (items_inside c.in-Some.node.now.inner)
     c.slot-slot.ensures
-    (list_found c.args.table.now.items c.put_items.new.self.items c.slot-slot.result.0 c.in_ok-items.items c.in_ok-put_items.ensures.items ∙ c.in_ok-items.ensures)
+    (list_found c.args.table.now.items c.put_items.new.self.items c.slot-slot.result.0 c.in-Ok.items c.in_ok-put_items.ensures.items ∙ c.in-Ok.ensures)
     ∙ ap (λ (o : Option (Bor PlainNode)). items_become true c.args.change.now.slot.0 (option_copied o)) (sym c.in-Some.is)
     ∙ ap (λ (b : Bool). items_become b c.args.change.now.slot.0 (option_copied c.args.procedure)) (sym (sym c.has_items.ensures ∙ c.if-not-has_items.false))
 
 pub returns-clause-there : goal.returns-clause-there
 returns-clause-there c =
     let own = c.slot-slot.result.0 in
-    let found = found_insert c.args.table.now.items c.put_items.new.self.items own c.in_ok-items.items c.in_ok-put_items.ensures.items in
+    let found = found_insert c.args.table.now.items c.put_items.new.self.items own c.in-Ok.items c.in_ok-put_items.ensures.items in
     found
     ∙ ap (λ (list : List Declared). Some list)
-    (sym (list_found c.args.table.now.items c.put_items.new.self.items own c.in_ok-items.items c.in_ok-put_items.ensures.items))
+    (sym (list_found c.args.table.now.items c.put_items.new.self.items own c.in-Ok.items c.in_ok-put_items.ensures.items))
 
 pub returns-clause-only : goal.returns-clause-only
 returns-clause-only c =
     λ is.
-    only_insert c.args.table.now.items c.put_items.new.self.items c.slot-slot.result.0 c.in_ok-items.items c.in_ok-put_items.ensures.items is
+    only_insert c.args.table.now.items c.put_items.new.self.items c.slot-slot.result.0 c.in-Ok.items c.in_ok-put_items.ensures.items is

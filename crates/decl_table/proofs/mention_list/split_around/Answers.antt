@@ -1,5 +1,4 @@
-use Rattle.std.proofs.Common.{◌≡◌, ◌∙◌, ◌+◌, suc, drop, sym, ap, arith}
-use Rattle.std.specs.Ordering.{ordering_index}
+use Rattle.std.proofs.Common.{◌≡◌, ◌∙◌, ◌+◌, suc, drop, ap, arith}
 use Rattle.decl_table.proofs.MendedPlaces.{searchable, split_found, split_gap}
 use Rattle.decl_table.proofs.mention_list.split_around.Goals as goal
 

@@ -1,9 +1,8 @@
 -- Nothing is added where the edit doesn't reach the lists, or where the procedure isn't there.
-use Rattle.std.specs.Prelude.{◌≡◌, refl, true, false, Bool, Option, OnOk, ◌++◌, List, []}
+use Rattle.std.specs.Prelude.{Bool, ◌++◌}
 use Rattle.std.specs.Option.{option_copied}
-use Rattle.std.proofs.Common.{Bor, ap, sym, ◌∙◌, subst}
+use Rattle.std.proofs.Common.{ap, sym, ◌∙◌}
 use Rattle.std.proofs.lemmas.List.{append-nil}
-use Rattle.template_tree.specs.Programs.PlainTree.{PlainNode}
 use Rattle.decl_table.specs.Private.DuePlaces.{due_lists}
 use Rattle.decl_table.proofs.preparation.add_due_lists.Goals as goal
 

@@ -1,4 +1,3 @@
-use Rattle.std.specs.Prelude.{◌≡◌}
 use Rattle.std.proofs.Common.{ap, sym, ◌∙◌}
 use Rattle.template_tree.specs.declared.change.What.{What}
 use Rattle.decl_table.specs.Private.ItemChangeView.{drops_item}

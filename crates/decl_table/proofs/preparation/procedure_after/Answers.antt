@@ -1,5 +1,4 @@
 -- The item at the first number of the path, unless it was dropped itself.
-use Rattle.std.specs.Prelude.{◌≡◌, ◌∷◌, List, ℕ}
 use Rattle.std.proofs.Common.{ap, sym, ◌∙◌}
 use Rattle.template_tree.specs.Positions.Path.{node_at}
 use Rattle.decl_table.proofs.LeftItems.{left_none, left_nowhere, left_some}

@@ -1,5 +1,4 @@
 -- The items of one procedure alone may change, and those that come stand in the table of the edit.
-use Rattle.std.specs.Prelude.{◌≡◌}
 use Rattle.std.proofs.Common.{ap, sym, ◌∙◌}
 use Rattle.plcs_base.specs.Scope.{item_at}
 use Rattle.decl_table.specs.DeclEdit.{PlainDeclEdit}

@@ -1,4 +1,4 @@
-use Rattle.std.proofs.Common.{ℕ, List, false, refl, subst, sym}
+use Rattle.std.proofs.Common.{false, refl, subst, sym}
 use Rattle.std.specs.Prelude.{OnOk}
 use Rattle.std.specs.Option.{option_copied}
 use Rattle.template_tree.specs.Checks.ProgramMaps.{items_in}

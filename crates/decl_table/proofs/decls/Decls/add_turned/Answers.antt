@@ -1,5 +1,5 @@
 -- The items before the edit and after it are those that the two tables have of the procedure.
-use Rattle.std.proofs.Common.{Bor, List, Option, Some, ℕ, false, refl, subst, sym}
+use Rattle.std.proofs.Common.{Bor, List, Option, Some, false, refl, subst, sym}
 use Rattle.std.specs.Prelude.{OnOk}
 use Rattle.std.specs.Option.{option_copied}
 use Rattle.plcs_base.specs.declared.declared.Declared.{Declared}

@@ -1,5 +1,5 @@
 -- Each table is changed by its own piece of the edit, in its own room.
-use Rattle.std.specs.Prelude.{◌≡◌, ◌≤◌, bytes_eq, length}
+use Rattle.std.specs.Prelude.{bytes_eq, length}
 use Rattle.std.specs.Map.{lookup}
 use Rattle.std.proofs.Common.{ap, sym, ◌∙◌, subst, arith}
 use Rattle.decl_table.specs.DeclEdit.{HasItemsOf, MayMendNames, PlainDeclEdit, changed_or, items_changed, names_after, names_mended}

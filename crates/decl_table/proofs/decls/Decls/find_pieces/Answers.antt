@@ -34,7 +34,7 @@ find_changed-requires-clause-came c =
 pub returns-clause-after : goal.returns-clause-after
 returns-clause-after c =
     let pieces = c.find_changed.new.pieces in
-    let is = c.in_ok-find_changed.ensures in
+    let is = c.in-Ok.ensures in
     let inner = ap (λ (d : PlainDecls). d.names) c.self.view_is in
     let first : PlainDeclEdit = pieces_edit pieces c.args.names.now in
     λ before b.
@@ -59,7 +59,7 @@ returns-clause-after c =
 pub returns-clause-due : goal.returns-clause-due
 returns-clause-due c =
     let pieces = c.find_changed.new.pieces in
-    let is = c.in_ok-find_changed.ensures in
+    let is = c.in-Ok.ensures in
     let inner = ap (λ (d : PlainDecls). d.names) c.self.view_is in
     λ before b.
     let of = c.requires.edit before b.tree b.decls_are.names_are b.differs in
@@ -92,7 +92,7 @@ returns-clause-due c =
 pub returns-clause-gone : goal.returns-clause-gone
 returns-clause-gone c =
     let pieces = c.find_changed.new.pieces in
-    let is = c.in_ok-find_changed.ensures in
+    let is = c.in-Ok.ensures in
     let inner = ap (λ (d : PlainDecls). d.names) c.self.view_is in
     λ before b.
     gone_found c.args.self.now c.args.change.now before c.args.tree.now c.requires.tree b c.args.names.now

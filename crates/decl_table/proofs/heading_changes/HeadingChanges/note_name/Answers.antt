@@ -1,4 +1,4 @@
-use Rattle.std.proofs.Common.{◌≡◌, ◌∙◌, ◌∷◌, ◌++◌, [], List, ℕ, Option, option_map, is_some, sym, ap, subst}
+use Rattle.std.proofs.Common.{◌∙◌, List, ℕ, Option, option_map, is_some, sym, ap, subst}
 use Rattle.std.specs.Prelude.{bytes_eq}
 use Rattle.std.specs.Map.{lookup}
 use Rattle.decl_table.specs.Private.HeadingChangesView.{NotesHeadings, plain_heading_changes}

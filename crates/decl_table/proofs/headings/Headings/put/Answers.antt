@@ -1,4 +1,4 @@
-use Rattle.std.proofs.Common.{◌≡◌, ◌∙◌, Some, cond, ap}
+use Rattle.std.proofs.Common.{◌∙◌, Some, cond, ap}
 use Rattle.std.specs.Prelude.{bytes_eq}
 use Rattle.decl_table.specs.PlainDecls.{slot_of}
 use Rattle.decl_table.specs.Private.DeclsView.{RoomyHeadings}

@@ -1,6 +1,5 @@
-use Rattle.std.proofs.Common.{◌≡◌, ◌∙◌, Some, None, cond, option_map, sym, ap, arith, true≢false}
-use Rattle.std.specs.Prelude.{◌≤◌, ◌+◌, bytes_eq}
-use Rattle.std.specs.Map.{lookup}
+use Rattle.std.proofs.Common.{◌∙◌, Some, None, cond, option_map, sym, ap, arith, true≢false}
+use Rattle.std.specs.Prelude.{bytes_eq}
 use Rattle.decl_table.specs.PlainDecls.{slot_of}
 use Rattle.decl_table.specs.Private.DeclsView.{RoomyHeadings}
 use Rattle.decl_table.proofs.headings.Headings.put_change.Goals as goal

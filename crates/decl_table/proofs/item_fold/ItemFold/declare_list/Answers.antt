@@ -1,7 +1,6 @@
 use Rattle.std.proofs.Common.{◌≡◌, ◌∙◌, ◌≤◌, ◌+◌, ◌∷◌, Some, drop, length, refl, sym, ap, arith}
 use Rattle.std.specs.Option.{option_or}
 use Rattle.std.proofs.Math.ListN.{drop_of_length-le}
-use Rattle.plcs_grammar.specs.declared.item.Item.{Item}
 use Rattle.template_tree.specs.Checks.Environment.{declared_as, effective, item_offence, with_declared, with_type}
 use Rattle.template_tree.specs.Checks.Verdict.{declared_offence}
 use Rattle.decl_table.proofs.AddedUses.{left_behind}

@@ -1,4 +1,4 @@
-use Rattle.std.proofs.Common.{◌∙◌, ap, sym}
+use Rattle.std.proofs.Common.{◌∙◌, ap}
 use Rattle.decl_table.specs.DeclEdit.{changed_or}
 use Rattle.decl_table.specs.PlainDecls.{slot_of}
 use Rattle.decl_table.proofs.known_table.Sources.headed.Goals as goal

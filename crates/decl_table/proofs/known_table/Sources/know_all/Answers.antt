@@ -1,4 +1,4 @@
-use Rattle.std.proofs.Common.{◌≡◌, ◌≤◌, length, arith}
+use Rattle.std.proofs.Common.{◌≤◌, length, arith}
 use Rattle.decl_table.proofs.KnownSources.{KnowsAt, gathering_stays, knows_stays, places_known, read_again}
 use Rattle.decl_table.proofs.KnownTables.{learns_more, learns_nothing}
 use Rattle.decl_table.proofs.KeptOwn.{keeps_all, keeps_more}

@@ -1,4 +1,4 @@
-use Rattle.std.proofs.Common.{◌≡◌, ◌≤◌, List, ℕ, length, subst, take, true, arith}
+use Rattle.std.proofs.Common.{◌≡◌, ◌≤◌, List, ℕ, length, subst, true, arith}
 use Rattle.decl_table.specs.Knowledge.{KnowsHeading}
 use Rattle.decl_table.specs.Private.NameTests.{has_name}
 use Rattle.decl_table.proofs.AddedUses.{left_behind}

@@ -1,39 +1,19 @@
-use Rattle.std.proofs.Common.{◌≡◌, ◌∙◌, List, ℕ, ap}
-use Rattle.decl_table.proofs.AddedUses.{then_ok}
-use Rattle.decl_table.proofs.KnownSources.{gathering_stays, kept_too}
-use Rattle.decl_table.proofs.KnownTables.{learns_more}
+use Rattle.std.proofs.Common.{◌∙◌}
 use Rattle.plcs_grammar.specs.PlainPhrase.{plain_phrase}
-use Rattle.decl_table.proofs.KeptOwn.{keeps_more}
+use Rattle.decl_table.proofs.AddedUses.{then_ok}
+use Rattle.decl_table.proofs.KnownSources.{kept_too}
 use Rattle.decl_table.proofs.known_table.Sources.know_names.Goals as goal
-
-pub know_headings-requires-clause-gathering : goal.know_headings-requires-clause-gathering
-know_headings-requires-clause-gathering c =
-    gathering_stays c.args.self.now.items c.args.self.now.tree.now.items c.args.table.now c.know_items.new.table c.in_ok-know_items.ensures.learns c.requires.gathering
-
-pub returns-clause-learns : goal.returns-clause-learns
-returns-clause-learns c =
-    then_ok c.know_headings.result
-    (learns_more c.args.self.now.tree.now.items c.args.table.now c.know_items.new.table c.know_headings.new.table c.in_ok-know_items.ensures.learns)
-    c.know_headings.ensures.learns
 
 pub returns-clause-items : goal.returns-clause-items
 returns-clause-items c =
-    then_ok c.know_headings.result
-    (λ learns name there.
-    learns.items c.args.procedure.0 name
-    (c.in_ok-know_items.ensures.knows name
-    (kept_too c.as_slice.result.now (plain_phrase c.args.phrase.now) (c.as_slice.ensures ∙ c.in_ok-names.ensures) name there)))
-    c.know_headings.ensures.learns
+    then_ok c.know_these-known.result
+    (λ knows name there.
+    knows name (kept_too c.as_slice.result.now (plain_phrase c.args.phrase.now) (c.as_slice.ensures ∙ c.in-Ok.ensures) name there))
+    c.know_these-known.ensures.items
 
 pub returns-clause-headings : goal.returns-clause-headings
 returns-clause-headings c =
-    then_ok c.know_headings.result
+    then_ok c.know_these-known.result
     (λ knows name there.
-    knows name (kept_too c.as_slice-2.result.now (plain_phrase c.args.phrase.now) (c.as_slice-2.ensures ∙ c.in_ok-names.ensures) name there))
-    c.know_headings.ensures.knows
-
-pub returns-clause-own : goal.returns-clause-own
-returns-clause-own c =
-    then_ok c.know_headings.result
-    (keeps_more c.args.self.now.items c.args.table.now c.know_items.new.table c.know_headings.new.table c.in_ok-know_items.ensures.own)
-    c.know_headings.ensures.own
+    knows name (kept_too c.as_slice.result.now (plain_phrase c.args.phrase.now) (c.as_slice.ensures ∙ c.in-Ok.ensures) name there))
+    c.know_these-known.ensures.headings

@@ -1,4 +1,4 @@
-use Rattle.std.specs.Prelude.{◌≡◌, IfOk}
+use Rattle.std.specs.Prelude.{IfOk}
 use Rattle.std.proofs.Common.{sym, subst}
 use Rattle.template_tree.specs.declared.change.What.{What}
 use Rattle.decl_table.specs.Private.ChangeBefore.{IsEditOf}

@@ -6,7 +6,7 @@ use Rattle.plcs_grammar.specs.declared.expr.Expr.{size-Expr}
 use Rattle.plcs_grammar.specs.declared.expr.Expr.TheVariants.{Infix}
 use Rattle.plcs_grammar.specs.declared.expr.Expr.TheViews.{the_lemmas}
 use Rattle.plcs_grammar.specs.PlainExprCases.{expr_bit, expr_builtin, expr_infix, expr_number, expr_paren, expr_prefix, expr_text, expr_variable, reference_subscripted}
-use Rattle.plcs_grammar.specs.PlainPhrase.{plain_expr, plain_exprs, plain_var_ref}
+use Rattle.plcs_grammar.specs.PlainPhrase.{plain_expr, plain_exprs}
 use Rattle.template_tree.specs.Checks.Mention.{names_in, names_in_all, reference_names}
 use Rattle.decl_table.proofs.GatheredNames.{Gathered, exprs_turn, gathered_all, gathered_last, gathered_next, gathered_two, take_turn, then_ok}
 use Rattle.decl_table.proofs.name_list.NameList.+add_expr.Goals as goal

@@ -1,4 +1,4 @@
-use Rattle.std.proofs.Common.{◌≡◌, ◌∙◌, ◌<◌, ◌-◌, suc, [], ◌∷◌, length, map, take, ap, arith}
+use Rattle.std.proofs.Common.{◌≡◌, ◌∙◌, ◌<◌, ◌-◌, suc, length, map, take, ap, arith}
 use Rattle.std.specs.Prelude.{flat_map}
 use Rattle.plcs_grammar.specs.PlainPhrase.{plain_var_ref}
 use Rattle.template_tree.specs.Checks.Mention.{reference_names}

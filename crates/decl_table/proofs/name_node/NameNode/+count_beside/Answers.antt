@@ -1,5 +1,5 @@
-use Rattle.std.specs.Prelude.{◌≡◌, ◌∷◌, [], Some, None, length, slice_get}
-use Rattle.std.proofs.Common.{arith, ap, sym, ◌∙◌}
+use Rattle.std.specs.Prelude.{◌≡◌, ◌∷◌, Some, None, length, slice_get}
+use Rattle.std.proofs.Common.{ap, sym, ◌∙◌}
 use Rattle.decl_table.specs.Private.NamePaths.{count_beside}
 use Rattle.decl_table.specs.Private.PlainNameNode.{PlainNameNode, name_nodes, name_nodes_forest}
 use Rattle.decl_table.proofs.MendedNameLists.{empty, insides_length}

@@ -1,6 +1,6 @@
-use Rattle.std.specs.Prelude.{◌≡◌, ◌<◌, ◌≤◌, ◌∷◌, [], Some, None, length, slice_get, slice_set}
+use Rattle.std.specs.Prelude.{◌≡◌, ◌∷◌, Some, None, length, slice_get, slice_set}
 use Rattle.std.proofs.Common.{arith, ap, sym, ◌∙◌, subst}
-use Rattle.decl_table.specs.DeclEdit.{MayMendNames, names_mended}
+use Rattle.decl_table.specs.DeclEdit.{MayMendNames}
 use Rattle.decl_table.specs.Private.NameMendView.{plain_mend, with_mend}
 use Rattle.decl_table.specs.Private.PlainNameNode.{PlainNameNode, name_forest, name_nodes}
 use Rattle.decl_table.proofs.MendedNameLists.{empty, mended_inside, may_inside, may_there}

@@ -1,10 +1,10 @@
 -- Each item that is passed hasn't the slot, and what stands inside it hasn't either, so the slot stands as often in the
 -- items that are left as in all. Where it is found in an item, the item's number comes before the path from there on.
-use Rattle.std.specs.Prelude.{◌≡◌, ℕ, ◌+◌, ◌<◌, ◌≤◌, ◌==◌, ◌∷◌, [], if◌then◌else◌, Some, None, length, drop, option_map, slice_get}
-use Rattle.std.proofs.Common.{arith, ap, sym, ◌∙◌, subst}
+use Rattle.std.specs.Prelude.{◌≡◌, ℕ, ◌==◌, if◌then◌else◌, Some, length, option_map, slice_get}
+use Rattle.std.proofs.Common.{arith, ap, sym, ◌∙◌}
 use Rattle.std.proofs.lemmas.Option.{slice_get_within}
-use Rattle.decl_table.specs.Private.NamePaths.{name_depth, name_times, names_at}
-use Rattle.decl_table.specs.Private.PlainNameNode.{PlainNameNode, name_forest, name_nodes}
+use Rattle.decl_table.specs.Private.NamePaths.{name_times, names_at}
+use Rattle.decl_table.specs.Private.PlainNameNode.{PlainNameNode, name_nodes}
 use Rattle.plcs_base.specs.ListLeft.{past_where_none}
 use Rattle.decl_table.proofs.FoundNames.{item_depth, other_slot, path_through, path_to_item, times_left, times_none, name_node_few, name_nodes_few}
 use Rattle.decl_table.proofs.OpenedNames.{found_again}

@@ -1,8 +1,7 @@
-use Rattle.std.specs.Prelude.{◌≡◌, ◌≤◌, Some, None}
 use Rattle.std.proofs.Common.{arith}
 use Rattle.template_tree.specs.declared.change.What.{What}
 use Rattle.decl_table.proofs.EditedNodes.{edited_drop}
-use Rattle.decl_table.proofs.PreparedNames.{IsPrepared, before_deep, before_few, before_stands, prepared_drop}
+use Rattle.decl_table.proofs.PreparedNames.{before_deep, before_few, before_stands, prepared_drop}
 use Rattle.decl_table.proofs.name_node.NameNode.dropping.Goals as goal
 
 pub path_near-requires-clause-shallow : goal.path_near-requires-clause-shallow

@@ -1,45 +1,25 @@
--- After each turn the names gathered so far, with those of the parts that are left, are those of all parts.
-use Rattle.std.specs.Prelude.{◌≡◌, refl, ◌++◌, Some, map, option_map, slice_get}
-use Rattle.std.proofs.Common.{arith, ap, sym, ◌∙◌}
-use Rattle.std.proofs.lemmas.Option.{slice_get_within}
-use Rattle.template_tree.specs.Programs.PlainPhrasePlace.{plain_phrase_place}
-use Rattle.decl_table.specs.Names.{NameLabel, kept_names}
+use Rattle.std.proofs.Common.{ap, ◌∙◌}
 use Rattle.decl_table.specs.Private.PlainNameNode.{PlainNameNode, name_node_of}
-use Rattle.decl_table.proofs.MadeNames.{parts_all, parts_next}
+use Rattle.decl_table.proofs.AddedUses.{then_ok}
+use Rattle.decl_table.proofs.HandedOut.{handed}
 use Rattle.decl_table.proofs.name_node.NameNode.label_of.Goals as goal
 
-pub loop-part-init : goal.loop-part-init
-loop-part-init c = record {
-  made = record { all = ap (λ (n : PlainNameNode). n.label.parts ++ map (option_map kept_names) c.args.node.now.label.parts) c.bare-names.ensures };
-  slot = refl;
-  kind = refl;
-  inner = refl;
-  within = omega arith;
-}
-
-pub loop-part-preserved : goal.loop-part-preserved
-loop-part-preserved c =
-    let parts = c.args.node.now.label.parts in
-    let place = plain_phrase_place c.in-Some.field-0.now in
-    let there : slice_get parts c.loop-part.part ≡ Some place = sym c.in-Some.ensures in
-    record {
-      made =
-          parts_next (name_node_of c.args.node.now).label.parts c.loop-part.names.label.parts c.add_part.new.self.label.parts parts c.loop-part.part
-          place there (ap (λ (n : PlainNameNode). n.label.parts) c.in_ok-add_part.ensures) c.loop-part.invariant.made;
-      slot = ap (λ (n : PlainNameNode). n.label.slot) c.in_ok-add_part.ensures ∙ c.loop-part.invariant.slot;
-      kind = ap (λ (n : PlainNameNode). n.label.kind) c.in_ok-add_part.ensures ∙ c.loop-part.invariant.kind;
-      inner = ap (λ (n : PlainNameNode). n.inner) c.in_ok-add_part.ensures ∙ c.loop-part.invariant.inner;
-      within = omega (arith, slice_get_within parts c.loop-part.part place there);
-    }
+pub add_parts-requires-clause-none : goal.add_parts-requires-clause-none
+add_parts-requires-clause-none c = ap (λ (n : PlainNameNode). n.label.parts) c.bare-names.ensures
 
 pub returns-clause-label : goal.returns-clause-label
 returns-clause-label c =
-    let parts =
-    parts_all (name_node_of c.args.node.now).label.parts c.loop-part.names.label.parts c.args.node.now.label.parts c.loop-part.part
-    (sym c.in_default.ensures) c.loop-part.invariant.made in
-    let slot = c.loop-part.invariant.slot ∙ ap (λ (n : PlainNameNode). n.label.slot) c.bare-names.ensures ∙ c.slot.ensures in
-    let kind = c.loop-part.invariant.kind ∙ ap (λ (n : PlainNameNode). n.label.kind) c.bare-names.ensures ∙ c.kind.ensures in
-    (λ i. record { slot = slot i; kind = kind i; parts = parts i })
+    let slot = ap (λ (n : PlainNameNode). n.label.slot) c.bare-names.ensures ∙ c.slot.ensures in
+    let kind = ap (λ (n : PlainNameNode). n.label.kind) c.bare-names.ensures ∙ c.kind.ensures in
+    let parts = (name_node_of c.args.node.now).label.parts in
+    handed c.add_parts.result c.add_parts.new.self c.and.result _ c.and.ensures
+    (then_ok c.add_parts.result
+    (λ is. ap (λ (n : PlainNameNode). n.label) is ∙ (λ i. record { slot = slot i; kind = kind i; parts = parts }))
+    c.add_parts.ensures)
 
 pub returns-clause-inner : goal.returns-clause-inner
-returns-clause-inner c = c.loop-part.invariant.inner ∙ ap (λ (n : PlainNameNode). n.inner) c.bare-names.ensures
+returns-clause-inner c =
+    handed c.add_parts.result c.add_parts.new.self c.and.result _ c.and.ensures
+    (then_ok c.add_parts.result
+    (λ is. ap (λ (n : PlainNameNode). n.inner) is ∙ ap (λ (n : PlainNameNode). n.inner) c.bare-names.ensures)
+    c.add_parts.ensures)

@@ -1,10 +1,8 @@
-use Rattle.std.specs.Prelude.{◌≡◌, ◌<◌, ◌≤◌, length, slice_set}
-use Rattle.std.specs.List.{insert, remove}
 use Rattle.std.proofs.Common.{arith, ap, sym, ◌∙◌, subst}
 use Rattle.decl_table.specs.DeclEdit.{NameMend, MayMendName, name_mended}
 use Rattle.decl_table.specs.declared.name_edit.NameMend.{NameMend as Mend}
-use Rattle.decl_table.specs.Private.NameMendView.{plain_mend, with_inside}
-use Rattle.decl_table.specs.Private.PlainNameNode.{PlainNameNode, name_forest, name_nodes, node_names}
+use Rattle.decl_table.specs.Private.NameMendView.{plain_mend}
+use Rattle.decl_table.specs.Private.PlainNameNode.{PlainNameNode, node_names}
 use Rattle.decl_table.proofs.MendedNameLists.{insides_length, item_there, list_inserted, list_parts, list_removed, list_set}
 use Rattle.decl_table.proofs.name_node.NameNode.mend.Goals as goal
 

@@ -1,8 +1,6 @@
-use Rattle.std.specs.Prelude.{◌≡◌, ◌∷◌, []}
 use Rattle.std.proofs.Common.{ap, sym, ◌∙◌, subst}
 use Rattle.decl_table.specs.DeclEdit.{MayMendNames, PlainNameEdit}
 use Rattle.decl_table.specs.Private.NameMendView.{plain_mend, with_mend}
-use Rattle.decl_table.specs.Private.PlainNameNode.{PlainNameNode}
 use Rattle.decl_table.proofs.MendedNameLists.{empty}
 use Rattle.decl_table.proofs.name_node.NameNode.put_in_place.Goals as goal
 

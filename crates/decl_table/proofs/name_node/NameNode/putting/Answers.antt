@@ -1,7 +1,7 @@
-use Rattle.std.specs.Prelude.{◌≡◌, refl, ◌≤◌, Some, None}
+use Rattle.std.specs.Prelude.{refl}
 use Rattle.std.proofs.Common.{arith, sym}
 use Rattle.decl_table.proofs.EditedNodes.{edited_put}
-use Rattle.decl_table.proofs.PreparedNames.{IsPrepared, no_node, prepared_put}
+use Rattle.decl_table.proofs.PreparedNames.{no_node, prepared_put}
 use Rattle.decl_table.proofs.name_node.NameNode.putting.Goals as goal
 
 pub unreachable-requires : goal.unreachable-requires

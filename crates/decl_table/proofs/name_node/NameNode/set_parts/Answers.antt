@@ -1,9 +1,8 @@
-use Rattle.std.specs.Prelude.{◌≡◌, ◌<◌, Some, None, length, slice_get, slice_set}
-use Rattle.std.proofs.Common.{arith, ap, sym, ◌∙◌}
-use Rattle.decl_table.specs.Private.NameMendView.{with_inside, with_parts_of}
-use Rattle.decl_table.specs.Private.PlainNameNode.{PlainNameNode, name_forest, name_nodes}
+use Rattle.std.specs.Prelude.{◌≡◌, None, slice_get}
+use Rattle.std.proofs.Common.{arith, sym, ◌∙◌}
+use Rattle.decl_table.specs.Private.PlainNameNode.{name_nodes}
 use Rattle.plcs_base.specs.ListLeft.{past_where_none}
-use Rattle.decl_table.proofs.OpenedNames.{found_again, items_are}
+use Rattle.decl_table.proofs.OpenedNames.{found_again}
 use Rattle.decl_table.proofs.name_node.NameNode.set_parts.Goals as goal
 
 pub unreachable-requires : goal.unreachable-requires

@@ -1,8 +1,8 @@
-use Rattle.std.specs.Prelude.{◌≡◌, refl, ◌≤◌, Some, None}
-use Rattle.std.proofs.Common.{arith, ap, sym}
+use Rattle.std.specs.Prelude.{refl}
+use Rattle.std.proofs.Common.{arith, sym}
 use Rattle.decl_table.proofs.MadeNames.{few_parts}
 use Rattle.decl_table.proofs.EditedNodes.{edited_set}
-use Rattle.decl_table.proofs.PreparedNames.{IsPrepared, no_node, prepared_set}
+use Rattle.decl_table.proofs.PreparedNames.{no_node, prepared_set}
 use Rattle.decl_table.proofs.name_node.NameNode.setting.Goals as goal
 
 pub unreachable-requires : goal.unreachable-requires

@@ -1,4 +1,4 @@
-use Rattle.std.proofs.Common.{◌≡◌, ◌≤◌, ◌+◌, List, ℕ, drop, length, refl, ap, arith}
+use Rattle.std.proofs.Common.{◌≤◌, ◌+◌, drop, length, ap, arith}
 use Rattle.std.specs.Prelude.{bytes_eq}
 use Rattle.std.proofs.Math.ListN.{drop_of_length-le}
 use Rattle.decl_table.specs.Private.NameTests.{has_name}

@@ -1,5 +1,5 @@
 -- The item is put among those that are lent, or among none; both put what comes of it under the procedure's slot.
-use Rattle.std.proofs.Common.{◌≡◌, ◌∙◌, List, ℕ, Option, Some, [], ap, refl, subst, sym}
+use Rattle.std.proofs.Common.{◌≡◌, ◌∙◌, List, Option, Some, [], ap, refl, subst}
 use Rattle.std.specs.Prelude.{IsSome, unwrap_or}
 use Rattle.std.specs.FinMap.{from_entries, insert}
 use Rattle.plcs_base.specs.Scope.{ItemMap}

@@ -1,9 +1,9 @@
 -- With what the nodes that are left add, all is noted that the nodes add; a node adds its parts and what stands inside it.
-use Rattle.std.proofs.Common.{◌≡◌, ◌+◌, ◌<◌, Some, [], ◌∷◌, drop, length, slice_get, refl, sym, ap, subst, ◌∙◌, arith}
+use Rattle.std.proofs.Common.{◌≡◌, ◌+◌, Some, drop, length, slice_get, refl, sym, ap, subst, ◌∙◌, arith}
 use Rattle.std.proofs.lemmas.Option.{slice_get_read}
 use Rattle.std.proofs.Math.ListN.{drop_of_length-le}
 use Rattle.decl_table.specs.Private.NamePaths.{name_count}
-use Rattle.decl_table.specs.Private.PlainNameNode.{HaveFewParts, PlainNameNode, name_forest, name_forest_nodes, name_nodes, name_nodes_forest, node_names}
+use Rattle.decl_table.specs.Private.PlainNameNode.{HaveFewParts, name_forest, name_forest_nodes, name_nodes_forest, node_names}
 use Rattle.decl_table.specs.Private.UsesView.{AddsNodes}
 use Rattle.decl_table.proofs.AddedUses.{adds_both, few_of, left_behind, leaves_next, leaves_none, of_node, of_nodes, of_nodes-first, of_parts, then_ok}
 use Rattle.decl_table.proofs.FoundNames.{name_node_few}

@@ -1,10 +1,5 @@
-use Rattle.std.proofs.Common.{◌≡◌, ◌∙◌, List, ℕ, Some, None, cond, sym, ap, subst}
-use Rattle.std.specs.Prelude.{bytes_eq}
-use Rattle.std.specs.Map.{lookup}
-use Rattle.plcs_base.specs.declared.place.PhraseAt.{PhraseAt}
-use Rattle.decl_table.specs.DeclEdit.{changed_or}
-use Rattle.decl_table.specs.PlainDecls.{mentions_of}
-use Rattle.decl_table.specs.Private.UsesView.{IsMended, MendsNames, RoomyUses}
+use Rattle.std.proofs.Common.{Some, None, sym, ◌∙◌}
+use Rattle.decl_table.proofs.AddedUses.{then_ok}
 use Rattle.decl_table.proofs.MendedUses.{mended_of, mends_none, mends_put, mends_there}
 use Rattle.decl_table.proofs.uses.Uses.mend.Goals as goal
 
@@ -13,23 +8,22 @@ returns-then-has c =
     mends_there c.args.before.now.uses c.args.went.now.uses c.args.came.now.uses c.args.self.now.uses c.args.name.now
     (sym c.has.ensures ∙ c.if-has.true)
 
-pub returns-in-None : goal.returns-in-None
-returns-in-None c =
+pub returns-in-Ok-None : goal.returns-in-Ok-None
+returns-in-Ok-None c =
     let name = c.args.name.now in
     let before = c.args.before.now.uses in
     mends_none before c.args.went.now.uses c.args.came.now.uses c.args.self.now.uses name
     (mended_of before c.args.went.now.uses c.args.came.now.uses name c.under.result.now c.under-2.result.now c.under-3.result.now
-    c.in_ok-mended.mended None c.under.ensures c.under-2.ensures c.under-3.ensures c.in-None.is c.in_ok-mended.ensures)
+    c.in-Ok-None.field-0 None c.under.ensures c.under-2.ensures c.under-3.ensures c.in-Ok-None.field-0-is c.in-Ok-None.ensures)
 
-pub returns-in_ok-insert-in-Some : goal.returns-in_ok-insert-in-Some
-returns-in_ok-insert-in-Some c =
+pub returns-in-Ok-Some : goal.returns-in-Ok-Some
+returns-in-Ok-Some c =
     let name = c.args.name.now in
     let before = c.args.before.now.uses in
-    let old = c.self.inside.places.entries in
-    let places = c.in-Some.places in
-    subst (λ (all : RoomyUses). MendsNames (bytes_eq name) before c.args.went.now.uses c.args.came.now.uses all.uses c.insert.new.self.entries)
-    c.self.view_is
-    (mends_put before c.args.went.now.uses c.args.came.now.uses old c.insert.new.self.entries name places
-    (λ other. c.in_ok-insert-in-Some.ensures.updates.0 other ∙ ap (λ key. cond (bytes_eq key other) (Some places) (lookup (bytes_eq other) old)) c.copy.ensures)
+    let places = c.in-Ok-Some.places in
+    then_ok c.insert.result
+    (λ is.
+    mends_put before c.args.went.now.uses c.args.came.now.uses c.args.self.now.uses c.insert.new.self.uses name places is
     (mended_of before c.args.went.now.uses c.args.came.now.uses name c.under.result.now c.under-2.result.now c.under-3.result.now
-    c.in_ok-mended.mended (Some places) c.under.ensures c.under-2.ensures c.under-3.ensures c.in-Some.is c.in_ok-mended.ensures))
+    c.in-Ok-Some.field-0 (Some places) c.under.ensures c.under-2.ensures c.under-3.ensures c.in-Ok-Some.field-0-is c.in-Ok-Some.ensures))
+    c.insert.ensures

@@ -1,5 +1,5 @@
-use Rattle.std.proofs.Common.{◌≡◌, ◌∙◌, Some, [], cond, sym, ap, arith, true≢false}
-use Rattle.std.specs.Prelude.{◌≤◌, ◌+◌, bytes_eq, unwrap_or}
+use Rattle.std.proofs.Common.{◌∙◌, [], cond, sym, ap, arith, true≢false}
+use Rattle.std.specs.Prelude.{bytes_eq, unwrap_or}
 use Rattle.std.specs.Map.{lookup}
 use Rattle.decl_table.specs.PlainDecls.{mentions_of}
 use Rattle.decl_table.specs.Private.UsesView.{RoomyUses}

@@ -1,8 +1,8 @@
 -- After each turn the changes that are left do what all of them do to what was there at first.
-use Rattle.std.proofs.Common.{◌≡◌, ◌∙◌, ◌≤◌, ◌+◌, ◌∷◌, ◌++◌, [], cond, length, refl, sym, ap, subst, arith, true≢false}
+use Rattle.std.proofs.Common.{◌∙◌, ◌∷◌, [], length, sym, ap, arith, true≢false}
 use Rattle.std.specs.Prelude.{bytes_eq}
 use Rattle.std.specs.Map.{lookup}
-use Rattle.std.proofs.lemmas.List.{append-nil, length-append}
+use Rattle.std.proofs.lemmas.List.{length-append}
 use Rattle.decl_table.specs.DeclEdit.{changed_or}
 use Rattle.decl_table.specs.PlainDecls.{mentions_of}
 use Rattle.decl_table.specs.Private.UsesView.{RoomyUses}

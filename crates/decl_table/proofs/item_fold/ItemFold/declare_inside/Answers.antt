@@ -4,11 +4,11 @@ use Rattle.template_tree.specs.Checks.Environment.{all_declared, declares, effec
 use Rattle.template_tree.specs.Programs.PlainTree.{forest, forest_nodes, nodes}
 use Rattle.decl_table.proofs.ItemLists.{effective_append}
 use Rattle.plcs_base.specs.ListLeft.{left_from, none_left}
-use Rattle.decl_table.proofs.items.Items.of.Goals as goal
+use Rattle.decl_table.proofs.item_fold.ItemFold.declare_inside.Goals as goal
 
 pub loop-node-init : goal.loop-node-init
 loop-node-init c = record {
-  made = rw (c.new-fold.ensures, forest_nodes c.args.procedure.now.inner) refl;
+  made = rw (c.requires.none, forest_nodes c.args.procedure.now.inner) refl;
   within = omega arith;
 }
 
@@ -30,15 +30,14 @@ loop-node-preserved c =
     record {
       made =
           ap (λ items. effective items rest) c.in_ok-declare_all.ensures.items
-          ∙ sym (effective_append c.loop-node.fold (declares c.in-Some.node.now.label) rest)
-          ∙ ap (λ left. effective c.loop-node.fold (all_declared (forest left))) (sym (left_from all c.loop-node.k c.in-Some.node.now (sym c.in-Some.ensures)))
+          ∙ sym (effective_append c.loop-node.self (declares c.in-Some.node.now.label) rest)
+          ∙ ap (λ left. effective c.loop-node.self (all_declared (forest left))) (sym (left_from all c.loop-node.k c.in-Some.node.now (sym c.in-Some.ensures)))
           ∙ c.loop-node.invariant.made;
       within = omega (arith, within);
     }
 
 pub returns : goal.returns
 returns c =
-    c.end.ensures
-    ∙ ap (λ left. effective c.loop-node.fold (all_declared (forest left)))
+    ap (λ left. effective c.loop-node.self (all_declared (forest left)))
     (sym (none_left (nodes c.args.procedure.now.inner) c.loop-node.k (sym c.in_default.ensures)))
     ∙ c.loop-node.invariant.made
