@@ -18,7 +18,6 @@ ghost use Rattle.code_patch.specs.Private.StepsView.{plain_jumps};
 
 use crate::code_node::CodeNode;
 use crate::outer::Outer;
-use crate::room::reserve_both;
 use plcs_base::{Marked, OutOfMemory, Scope, Work};
 use plcs_code::{JumpBlocks, MOST_INSTRS, OwnCode, lengths_are_told};
 use std::alloc::Global;
@@ -230,17 +229,7 @@ impl<W> CodeNode<W> {
         ensures short { OnOk result (sum (kept_lengths self.old.inner) + more ≤ most_instrs) }
     {
         length_within(self.length_inside(), more)?;
-        self.make_place()
-    }
-
-    /// Makes room for what is kept of one more node inside this node.
-    fn make_place(&mut self) -> Result<(), OutOfMemory>
-        requires few { length (code_nodes self.old.inner) < 2 ^ 32 }
-        ensures own { self.new.own ≡ self.old.own }
-        ensures inner { self.new.inner ≡ self.old.inner }
-        ensures room { OnOk result (0 < self.new.spare) }
-    {
-        reserve_both(&mut self.inner, &mut self.lengths)
+        self.reserve_one()
     }
 
     /// Puts what is kept of one more node, into room that is there, behind what is kept inside this node, which has no

@@ -1,5 +1,6 @@
 //! Room for one more kept node in a list of them, taken before an edit.
 ghost use Rattle.std.specs.Prelude.{◌≡◌, ◌^◌, ◌<◌, OnOk, length};
+ghost use Rattle.code_patch.specs.CodeForest.{code_nodes};
 ghost use Rattle.code_patch.specs.Private.PlainCodeNode.{count_kept, roomless_code_node};
 ghost use Rattle.code_patch.specs.Private.PreparedNodes.{LeadsToList, RoomAt};
 
@@ -19,8 +20,7 @@ impl<W> CodeNode<W> {
             return Ok(());
         };
         if rest.is_empty() {
-            self.reserve_one()?;
-            return Ok(());
+            return self.reserve_one();
         }
         let mut child = self.inner.take(*k as usize);
         let reserved = child.reserve_at(rest);
@@ -29,8 +29,8 @@ impl<W> CodeNode<W> {
     }
 
     /// Makes room for one more node in the list inside this node.
-    fn reserve_one(&mut self) -> Result<(), OutOfMemory>
-        requires few { count_kept self.old.inner < 2 ^ 32 }
+    pub(crate) fn reserve_one(&mut self) -> Result<(), OutOfMemory>
+        requires few { length (code_nodes self.old.inner) < 2 ^ 32 }
         ensures own { self.new.own ≡ self.old.own }
         ensures inner { self.new.inner ≡ self.old.inner }
         ensures room { OnOk result (0 < self.new.spare) }

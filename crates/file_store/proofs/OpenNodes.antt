@@ -21,11 +21,13 @@ pub frames_length : (outer : List machine.OpenNode) (frames : List OpenNode) →
 frames_length outer [] = omega arith
 frames_length outer (first ∷ frames) = omega (arith, frames_length (open_node_of first ∷ outer) frames)
 
--- the line before a section, where some node is open
-pub led_open : (text : List ℕ) (stack : machine.OpenNodes) (outer : List machine.OpenNode) → 1 ≤ length outer
-    → led_in text stack outer ≡ option_map (with_filling stack) (led_sections text stack.own.filling.left)
-led_open text stack [] h = absurd (omega (arith, h))
-led_open text stack (frame ∷ outer) h = refl
+-- the line before a section, where some node is open: how far the list has come behind it, as it was found
+pub led_by : {F : Type 0} (text : List ℕ) (stack : machine.OpenNodes) (outer : List machine.OpenNode) → 1 ≤ length outer
+    → (view : F → machine.Filling) (found : Option F) → option_map view found ≡ led_sections text stack.own.filling.left
+    → option_map (λ filling. with_filling stack (view filling)) found ≡ led_in text stack outer
+led_by text stack [] h view found e = absurd (omega (arith, h))
+led_by text stack (frame ∷ outer) h view (Some filling) e = ap (option_map (with_filling stack)) e
+led_by text stack (frame ∷ outer) h view None e = ap (option_map (with_filling stack)) e
 
 -- one item more
 pub roomless_push : (items : List PlainNode) (node : PlainNode)

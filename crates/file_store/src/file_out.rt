@@ -104,8 +104,10 @@ impl<'a, F: Files> FileOut<'a, F> {
             (desk (F.told self.new.files.now) (F.begun self.new.files.now) self.new.wait self.new.fault) }
         ensures files { self.new.files.ghost_name ≡ self.old.files.ghost_name }
     {
-        'times: for _ in 0..times {
+        let mut done = 0;
+        while done < times {
             self.put(byte);
+            done += 1;
         }
     }
 

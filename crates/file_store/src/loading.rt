@@ -44,8 +44,14 @@ fn load_listing<F: Files>(alloc: Global, name: &[u8], files: &mut F) -> Result<T
     ensures tree { IfOk result IsTree }
     ensures files { OnlyReads result (F.told files.old) (F.told files.new) (F.begun files.old) (F.begun files.new) }
 {
-    let bytes = read_file(alloc, name, files, LONGEST_LISTING)?;
-    read_listing(alloc, &bytes)
+    match read_file(alloc, name, files, LONGEST_LISTING) {
+        Ok(bytes) => {
+            let read = read_listing(alloc, &bytes);
+            drop(bytes);
+            read
+        }
+        Err(refusal) => Err(refusal),
+    }
 }
 
 /// The bytes of a program's input, which is loaded from the file of the name.

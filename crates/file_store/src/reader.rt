@@ -57,15 +57,30 @@ pub fn read_listing(alloc: Global, bytes: &[u8]) -> Result<Tree, FileRefusal>
     read_lines(alloc, bytes)
 }
 
-/// Reads the bytes as a listing, line after line.
+/// Reads the bytes as a listing, if they are no more than one may have.
 fn read_lines(alloc: Global, bytes: &[u8]) -> Result<Tree, FileRefusal>
     ensures { Loaded bytes.now result }
 {
-    line_laws();
     if bytes.len() > LONGEST_LISTING {
         return Err(FileRefusal::TooLong);
     }
-    let starts = line_starts(alloc, bytes)?;
+    match line_starts(alloc, bytes) {
+        Ok(starts) => {
+            let read = read_started(alloc, bytes, starts.as_slice());
+            drop(starts);
+            read
+        }
+        Err(_) => Err(FileRefusal::OutOfMemory),
+    }
+}
+
+/// Reads the bytes as a listing, line after line, where their lines start there.
+fn read_started(alloc: Global, bytes: &[u8], starts: &[u32]) -> Result<Tree, FileRefusal>
+    requires short { length bytes.now ≤ longest_listing }
+    requires starts { AreStarts bytes.now starts.now }
+    ensures { Loaded bytes.now result }
+{
+    line_laws();
     let mut reader = Reader {
         printable: all_printable(bytes),
         stack: OpenNodes::new(alloc),
@@ -73,7 +88,7 @@ fn read_lines(alloc: Global, bytes: &[u8]) -> Result<Tree, FileRefusal>
         opened: 0,
     };
     let mut rest = bytes;
-    let mut left = starts.as_slice();
+    let mut left = starts;
     while let Some((line, more, later)) = split_line(rest, left) {
         reader = reader.taken(alloc, line)?;
         rest = more;
@@ -82,6 +97,7 @@ fn read_lines(alloc: Global, bytes: &[u8]) -> Result<Tree, FileRefusal>
     let Reader { stack, lines, .. } = reader;
     let number = lines + 1;
     if is_left(rest) {
+        drop(stack);
         return Err(FileRefusal::NotAListing(number));
     }
     match finish(stack) {
@@ -104,7 +120,7 @@ struct Reader {
 
 impl Reader {
     /// The reader of a listing once it has taken the line.
-    fn taken(mut self, alloc: Global, line: &[u8]) -> Result<Reader, FileRefusal>
+    fn taken(self, alloc: Global, line: &[u8]) -> Result<Reader, FileRefusal>
         requires few { (come_of self).lines < longest_listing }
         requires opened { (come_of self).opened ≤ most_slots }
         requires short { length line.now ≤ longest_listing }
@@ -112,22 +128,36 @@ impl Reader {
         ensures refused { IfErr result (IsLineRefused line.now (come_of self)) }
     {
         line_laws();
-        self.lines += 1;
-        let said = match read_text_line(alloc, self.printable, line) {
-            Ok(said) => said,
-            Err(fault) => return Err(refused_in(self.lines, fault)),
-        };
-        let level = said.level;
-        let opens = opens(&said.saying);
-        self.stack = match line_taken(alloc, self.stack, said) {
-            Ok(stack) => stack,
-            Err(fault) => return Err(refused_in(self.lines, fault)),
-        };
-        match past_limit(opens, level, self.opened) {
-            Some(refusal) => Err(refusal),
-            None => {
-                self.opened = counted(opens, self.opened);
-                Ok(self)
+        let Reader {
+            printable,
+            stack,
+            lines,
+            opened,
+        } = self;
+        let number = lines + 1;
+        match read_text_line(alloc, printable, line) {
+            Ok(said) => {
+                let level = said.level;
+                let opens = opens(&said.saying);
+                match line_taken(alloc, stack, said) {
+                    Ok(stack) => match past_limit(opens, level, opened) {
+                        Some(refusal) => {
+                            drop(stack);
+                            Err(refusal)
+                        }
+                        None => Ok(Reader {
+                            printable,
+                            stack,
+                            lines: number,
+                            opened: counted(opens, opened),
+                        }),
+                    },
+                    Err(fault) => Err(refused_in(number, fault)),
+                }
+            }
+            Err(fault) => {
+                drop(stack);
+                Err(refused_in(number, fault))
             }
         }
     }

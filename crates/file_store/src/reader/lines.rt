@@ -25,8 +25,10 @@ pub(crate) fn read_line(alloc: Global, line: &[u8]) -> Result<Said, NotRead>
 {
     line_laws();
     let (level, text) = unblanked(line);
-    let saying = read_saying(alloc, text)?;
-    Ok(Said { level, saying })
+    match read_saying(alloc, text) {
+        Ok(saying) => Ok(Said { level, saying }),
+        Err(fault) => Err(fault),
+    }
 }
 
 /// The level that the blanks at the front of a listing's line tell, and what stands behind them.
@@ -89,8 +91,13 @@ fn read_parts(alloc: Global, kind: NodeKind, text: &[u8]) -> Result<Vec<PhrasePl
         (AreNoSegments (row_of kind).line text.now) result }
 {
     let mut parts = Vec::new(alloc);
-    read_segments(alloc, kind.row().line, text, &mut parts)?;
-    Ok(parts)
+    match read_segments(alloc, kind.row().line, text, &mut parts) {
+        Ok(()) => Ok(parts),
+        Err(fault) => {
+            drop(parts);
+            Err(fault)
+        }
+    }
 }
 
 /// The kinds of nodes whose first line a whole line may be, as far as its first byte tells.

@@ -115,8 +115,10 @@ fn read_front<'a, 'b>(
     if !is_empty(later) {
         return read_divided(alloc, category, words, later, text, parts);
     }
-    read_last(alloc, category, words, text, parts)?;
-    Ok(Front { later, rest: b"" })
+    match read_last(alloc, category, words, text, parts) {
+        Ok(()) => Ok(Front { later, rest: b"" }),
+        Err(fault) => Err(fault),
+    }
 }
 
 /// Reads the part before the last words of a line, behind parts that were read before.
@@ -159,8 +161,10 @@ fn read_divided<'a, 'b>(
     let Some((part, rest)) = cut_at(text, words) else {
         return Err(NotRead::Refused);
     };
-    read_part(alloc, category, part, parts, later.len() / 2 + 1)?;
-    Ok(Front { later, rest })
+    match read_part(alloc, category, part, parts, later.len() / 2 + 1) {
+        Ok(()) => Ok(Front { later, rest }),
+        Err(fault) => Err(fault),
+    }
 }
 
 /// Reads a part of the category behind parts that were read before: its placeholder or a phrase, if the text is one. So
@@ -175,10 +179,30 @@ fn read_part(
     ensures { Finds (λ _. IsPartAfter category text.now (map plain_phrase_place parts.old.items)
         (map plain_phrase_place parts.new.items)) (IsNoPart category text.now) result }
 {
-    let place = read_place(alloc, category, text)?;
-    parts.reserve_exact(count)?;
-    parts.push(place)?;
-    Ok(())
+    match read_place(alloc, category, text) {
+        Ok(place) => put_place(parts, place, count),
+        Err(fault) => Err(fault),
+    }
+}
+
+/// Puts what stands in a part behind the parts that were read before. The room for so many parts is taken at once.
+fn put_place(parts: &mut Vec<PhrasePlace>, place: PhrasePlace, count: usize) -> Result<(), NotRead>
+    ensures { Finds (λ _. map plain_phrase_place parts.new.items
+        ≡ map plain_phrase_place parts.old.items ++ plain_phrase_place place ∷ []) ⊥ result }
+{
+    match parts.reserve_exact(count) {
+        Ok(()) => match parts.push(place) {
+            Ok(()) => Ok(()),
+            Err(refused) => {
+                drop(refused);
+                Err(NotRead::OutOfMemory)
+            }
+        },
+        Err(_) => {
+            drop(place);
+            Err(NotRead::OutOfMemory)
+        }
+    }
 }
 
 /// Reads what stands in a part of the category: its placeholder or a phrase, if the text is one.

@@ -13,11 +13,14 @@ use Rattle.code_patch.specs.Private.PreparedNodes.{LeadsToList}
 use Rattle.code_patch.proofs.ActedNodes.{taken_many}
 use Rattle.code_patch.proofs.Opened.{found_again}
 use Rattle.code_patch.proofs.ReservedNodes.{leads_on, put_there, room_here, room_on, room_short, same_lengths, same_roomless}
-use Rattle.code_patch.proofs.SoughtSlots.{child_fewer}
+use Rattle.code_patch.proofs.SoughtSlots.{child_fewer, many_few}
 use Rattle.code_patch.proofs.code_node.CodeNode.+reserve_at.Goals as goal
 
 pub returns-in_default-clause-room : goal.returns-in_default-clause-room
 returns-in_default-clause-room g t c = room_short c.args.way.now c.args.self.now c.in_default.ensures.cases
+
+pub reserve_one-requires : goal.reserve_one-requires
+reserve_one-requires g t c = record { few = omega (arith, many_few c.args.self.now.inner, c.requires.few) }
 
 pub returns-then-is_empty : goal.returns-then-is_empty
 returns-then-is_empty g t c =
@@ -25,13 +28,10 @@ returns-then-is_empty g t c =
       same =
           (λ i. record { own = c.reserve_one.ensures.own i; spare = 0; inner = roomless_code (c.reserve_one.ensures.inner i) });
       room =
-          room_here c.in-Some.k.now c.in-Some.rest.now c.args.way.now c.reserve_one.new.self c.in-Some.ensures.cases.0 c.if-is_empty.ensures
-          c.in_ok-reserve_one.ensures.room;
+          on_ok_weaker c.reserve_one.result
+          (room_here c.in-Some.k.now c.in-Some.rest.now c.args.way.now c.reserve_one.new.self c.in-Some.ensures.cases.0 c.if-is_empty.ensures)
+          c.reserve_one.ensures.room;
     }
-
-pub returns-in_err-reserve_one-clause-same : goal.returns-in_err-reserve_one-clause-same
-returns-in_err-reserve_one-clause-same g t c =
-    (λ i. record { own = c.reserve_one.ensures.own i; spare = 0; inner = roomless_code (c.reserve_one.ensures.inner i) })
 
 pub take-child-requires : goal.take-child-requires
 take-child-requires g t c =

@@ -9,7 +9,6 @@ use Rattle.plcs_code.specs.OwnCode.{jumps_beside}
 use Rattle.code_patch.specs.CodeForest.{count_around, PlainCodeNode}
 use Rattle.code_patch.specs.Private.PlainCodeNode.{code_forest, kept_length}
 use Rattle.code_patch.proofs.Opened.{many_are}
-use Rattle.code_patch.proofs.SoughtSlots.{many_few}
 use Rattle.code_patch.proofs.code_node.CodeNode.reserve_one.Goals as goal
 
 pub reserve_both-requires : goal.reserve_both-requires
@@ -19,7 +18,7 @@ reserve_both-requires g c =
     ap length c.self.invariant.lengths ∙ length-map inside.inner.items kept_length in
     record {
       few =
-          omega (arith, many, many_are inside c.args.self.now c.self.view_is c.self.invariant, many_few c.args.self.now.inner, c.requires.few);
+          omega (arith, many, many_are inside c.args.self.now c.self.view_is c.self.invariant, c.requires.few);
     }
 
 pub invariant_of-self : goal.invariant_of-self

@@ -7,12 +7,12 @@ use Rattle.file_store.proofs.reader.Reader.taken.Goals as goal
 
 pub returns-in-Err-clause-refused : goal.returns-in-Err-clause-refused
 returns-in-Err-clause-refused c =
-    subst (IsLineRefused c.args.line.now (come_of c.args.self)) (sym c.refused_in.ensures)
+    subst (IsLineRefused c.args.line.now (come_of c.args.self)) (sym c.refused_in-in-Err.ensures)
     (unread_refused c.args.line.now (come_of c.args.self) c.in-Err.fault c.in-Err.ensures.says)
 
 pub returns-in-Err-line_taken-clause-refused : goal.returns-in-Err-line_taken-clause-refused
 returns-in-Err-line_taken-clause-refused c =
-    subst (IsLineRefused c.args.line.now (come_of c.args.self)) (sym c.refused_in-in-Err-line_taken.ensures)
+    subst (IsLineRefused c.args.line.now (come_of c.args.self)) (sym c.refused_in.ensures)
     (untaken_refused c.line_laws.ensures c.args.line.now (come_of c.args.self) (said_of c.in-Ok.said) c.in-Err-line_taken.fault
     c.in-Ok.ensures.says c.in-Err-line_taken.ensures)
 

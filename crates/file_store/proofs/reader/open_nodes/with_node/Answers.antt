@@ -5,7 +5,7 @@ use Rattle.file_store.specs.Private.Views.{filling_of}
 use Rattle.file_store.proofs.OpenNodes.{roomless_push}
 use Rattle.file_store.proofs.reader.open_nodes.with_node.Goals as goal
 
-pub returns : goal.returns
-returns c =
+pub returns-in-Ok : goal.returns-in-Ok
+returns-in-Ok c =
     ap (λ (z : Forest). Some (let list : machine.OpenList = record { items = z; filling = filling_of c.args.list.filling } in list))
-    (sym (ap (λ items. roomless (forest items)) c.in_default.ensures.put ∙ roomless_push c.args.list.items.items c.args.node))
+    (sym (ap (λ items. roomless (forest items)) c.in-Ok.ensures.put ∙ roomless_push c.args.list.items.items c.args.node))

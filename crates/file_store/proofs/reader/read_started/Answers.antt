@@ -7,7 +7,7 @@ use Rattle.file_store.specs.Loaded.{RefusalSays}
 use Rattle.file_store.proofs.LoadedTrees.{fits, loaded}
 use Rattle.file_store.proofs.ReadListings.{few_lines, line_left, line_refused, one_more, unended}
 use Rattle.file_store.proofs.RefusedLines.{unfinished_refused}
-use Rattle.file_store.proofs.reader.read_lines.Goals as goal
+use Rattle.file_store.proofs.reader.read_started.Goals as goal
 
 pub taken-requires-clause-few : goal.taken-requires-clause-few
 taken-requires-clause-few c =
@@ -15,15 +15,15 @@ taken-requires-clause-few c =
       arith,
       few_lines c.args.bytes.now c.loop-line.rest.now (come_of c.loop-line.reader) c.loop-line.invariant.0,
       line_left c.loop-line.rest.now c.in-Some.line.now c.in-Some.more.now c.in-Some.ensures.0,
-      c.if-bytes-gt-LONGEST_LISTING.false,
+      c.requires.short,
     )
 
 pub returns-in_err-reader : goal.returns-in_err-reader
 returns-in_err-reader c =
-    let p = err_from_is_err_and c.from_residual-in_err-reader.result c.from_residual-in_err-reader.ensures.1 in
+    let p = err_from_is_err_and c.from_residual.result c.from_residual.ensures.1 in
     rw (p.1, p.2)
     (line_refused c.line_laws.ensures c.args.bytes.now c.loop-line.rest.now c.in-Some.line.now c.in-Some.more.now (come_of c.loop-line.reader) _
-    c.if-bytes-gt-LONGEST_LISTING.false c.loop-line.invariant.0 c.in-Some.ensures.0 c.in-Some.ensures.1 c.in_err-reader.ensures.refused)
+    c.requires.short c.loop-line.invariant.0 c.in-Some.ensures.0 c.in-Some.ensures.1 c.in_err-reader.ensures.refused)
 
 pub loop-line-preserved : goal.loop-line-preserved
 loop-line-preserved c = (
@@ -34,11 +34,11 @@ loop-line-preserved c = (
 
 pub overflow_add-number : goal.overflow_add-number
 overflow_add-number c =
-    omega (arith, few_lines c.args.bytes.now c.loop-line.rest.now (come_of c.loop-line.reader) c.loop-line.invariant.0, c.if-bytes-gt-LONGEST_LISTING.false)
+    omega (arith, few_lines c.args.bytes.now c.loop-line.rest.now (come_of c.loop-line.reader) c.loop-line.invariant.0, c.requires.short)
 
 pub returns-then-is_left : goal.returns-then-is_left
 returns-then-is_left c =
-    unended c.line_laws.ensures c.args.bytes.now c.loop-line.rest.now (come_of c.loop-line.reader) _ c.if-bytes-gt-LONGEST_LISTING.false
+    unended c.line_laws.ensures c.args.bytes.now c.loop-line.rest.now (come_of c.loop-line.reader) _ c.requires.short
     c.loop-line.invariant.0 c.in_default.ensures (c.is_left.ensures.left c.if-is_left.true) refl
 
 pub tree_of-requires-clause-program : goal.tree_of-requires-clause-program
@@ -58,8 +58,8 @@ returns-in-Ok c =
     loaded c.args.bytes.now c.loop-line.rest.now (come_of c.loop-line.reader) c.in-Ok.items c.tree_of.result
     c.loop-line.invariant.0 (c.is_left.ensures.none c.if-is_left.false) c.in-Ok.ensures c.tree_of.ensures.built c.tree_of.ensures.tree
 
-pub returns : goal.returns
-returns c =
+pub returns-in-Err : goal.returns-in-Err
+returns-in-Err c =
     subst (RefusalSays c.args.bytes.now) (sym c.refused_in.ensures)
     (unfinished_refused c.line_laws.ensures c.args.bytes.now c.loop-line.rest.now (come_of c.loop-line.reader) c.in-Err.fault
-    c.if-bytes-gt-LONGEST_LISTING.false c.loop-line.invariant.0 (c.is_left.ensures.none c.if-is_left.false) c.in-Err.ensures)
+    c.requires.short c.loop-line.invariant.0 (c.is_left.ensures.none c.if-is_left.false) c.in-Err.ensures)

@@ -2,7 +2,7 @@ use Rattle.std.proofs.Common.{length}
 use Rattle.file_store.specs.Private.LineStarts.{AreStarts}
 use Rattle.file_store.specs.Private.Views.{come_of}
 use Rattle.file_store.proofs.ReadListings.{SoFar}
-use Rattle.file_store.proofs.reader.read_lines.Given as goal
+use Rattle.file_store.proofs.reader.read_started.Given as goal
 
 abbrev pub decreases-loop-line : goal.decreases-loop-line
 decreases-loop-line l = length l.rest
