@@ -1,5 +1,5 @@
--- edit, cut_out, accept_edit, undo_edit and accept_undo: what comes of a key whose edit is made and noted, or undone,
--- is what its outcome says, and counts what that says.
+-- edit, copy, cut, accept_edit and undo_edit: what comes of a key whose edit is made and noted, or undone, or by
+-- which a clip is filled, is what its outcome says, and counts what that says.
 use Rattle.std.proofs.Common.{◌≡◌, ℕ, ◌+◌, true, List, [], ◌∷◌, Option, Some, None, option_map, refl, sym, ap, ◌∙◌}
 use Rattle.std.specs.Prelude.{IfSome, IsSome, Ok}
 use Rattle.std.proofs.lemmas.Option.{none-some, same_Some}
@@ -22,7 +22,7 @@ use Rattle.session_edit.specs.PlainEdit.{PlainEdit}
 use Rattle.synth_session.specs.declared.answer.Answer.{Answer}
 use Rattle.synth_session.specs.declared.program.Program.{Program}
 use Rattle.synth_session.specs.declared.session.Session.{Session}
-use Rattle.synth_session.specs.ClipCommands.{cut_outcome}
+use Rattle.synth_session.specs.ClipCommands.{copy_outcome, cut_outcome}
 use Rattle.synth_session.specs.CountedKey.{CountsPressed, CountsPressedAtMost}
 use Rattle.synth_session.specs.EditCommands.{earlier_after, edit_outcome, edited_by, edited_session, session_with}
 use Rattle.synth_session.specs.KeyOutcome.{KeyOutcome, edit_acceptance_outcome, line_acceptance_outcome}
@@ -143,6 +143,17 @@ module _ {W : Type 0} (counts : CountsIgnoreRoom) (kept : Session W) (program : 
       (edited_session (plain_session kept) (roomless_tree program.tree) (plain_stop applied.stop) (option_map roomless_node applied.taken) what slot)
       { clips = with_clip name (whole i) (plain_session kept).clips }))
       ∙ sym (ap (λ (e : Edited). cut_outcome (plain_session kept) name e (Some fragment)) became))
+
+-- ---- what is copied
+
+-- what comes of copying what stands there into a clip, with which the clips are these
+pub copy_is : (s : PlainSession) (name : List ℕ) (clips : List (List ℕ × PlainFragment)) (fragment : Option PlainFragment)
+    → Some clips ≡ option_map (λ copy. with_clip name copy s.clips) (option_map whole_fragment fragment)
+    → line_acceptance_outcome (record s { clips = clips }) ≡ copy_outcome s name fragment
+copy_is s name clips None copied = absurd (none-some clips (sym copied))
+copy_is s name clips (Some fragment) copied =
+    ap (λ (held : List (List ℕ × PlainFragment)). line_acceptance_outcome (record s { clips = held }))
+    (same_Some clips (with_clip name (whole_fragment fragment) s.clips) copied)
 
 -- ---- an edit that is undone
 

@@ -5,12 +5,10 @@ use Rattle.plcs_base.specs.Count.{raised_by}
 use Rattle.plcs_base.specs.PlainCounts.{ChecksAtMost, PlainCounts}
 use Rattle.plcs_code.specs.Counts.{EmitsAtMost}
 use Rattle.clip_store.specs.ClipLimit.{is_full}
-use Rattle.session_edit.specs.Edited.{edited}
 use Rattle.session_edit.specs.Here.{takes_at}
-use Rattle.session_edit.specs.PlainEdit.{PlainEdit}
 use Rattle.synth_session.specs.declared.answer.ClipRefusal.{ClipRefusal}
 use Rattle.synth_session.specs.declared.answer.Refusal.TheVariants as why
-use Rattle.synth_session.specs.ClipCommands.{cut_outcome, cut_to_clip, fragment_there, slots_there}
+use Rattle.synth_session.specs.ClipCommands.{slots_there}
 use Rattle.synth_session.specs.CountedKey.{CountsPressed, CountsProgram}
 use Rattle.synth_session.specs.KeyOutcome.{KeyOutcome, refusal_outcome}
 use Rattle.synth_session.specs.PlainSession.{PlainSession}
@@ -103,17 +101,16 @@ key_counted {before} {now} checks emits c =
       laid = c.laid;
     }
 
--- what stands at the cursor can be taken out, and the clips have room: then what comes of cutting it comes of the key
-pub clip_cut : (s : PlainSession) (name : List ℕ) (P : KeyOutcome → Type 0) → takes_at s.tree s.stop ≡ true
-    → is_full name (slots_there s.tree s.stop) s.clips ≡ false
-    → P (cut_outcome s name (edited s.tree s.stop PlainEdit.take) (fragment_there s.tree s.stop s.stop.part))
-    → P (cut_to_clip s name)
-clip_cut s name P takes fits h =
-    by (takes_at s.tree s.stop) takes (is_full name (slots_there s.tree s.stop) s.clips) fits
-    (cut_outcome s name (edited s.tree s.stop PlainEdit.take) (fragment_there s.tree s.stop s.stop.part)) h
+-- what stands at the cursor can be taken out, and the clips have room: then this comes of the key
+pub clip_fits : (s : PlainSession) (name : List ℕ) (fitting : KeyOutcome) (P : KeyOutcome → Type 0) → takes_at s.tree s.stop ≡ true
+    → is_full name (slots_there s.tree s.stop) s.clips ≡ false → P fitting
+    → P (if takes_at s.tree s.stop
+    then (if is_full name (slots_there s.tree s.stop) s.clips then refusal_outcome s (why.Clip ClipRefusal.Full) else fitting)
+    else refusal_outcome s why.NotHere)
+clip_fits s name fitting P takes fits h = by (takes_at s.tree s.stop) takes (is_full name (slots_there s.tree s.stop) s.clips) fits
   where
-    by : (takes : Bool) → takes ≡ true → (full : Bool) → full ≡ false → (outcome : KeyOutcome) → P outcome
-        → P (if takes then (if full then refusal_outcome s (why.Clip ClipRefusal.Full) else outcome) else refusal_outcome s why.NotHere)
-    by true takes false fits outcome h = h
-    by true takes true fits outcome h = absurd (cc)
-    by false takes full fits outcome h = absurd (cc)
+    by : (takes : Bool) → takes ≡ true → (full : Bool) → full ≡ false
+        → P (if takes then (if full then refusal_outcome s (why.Clip ClipRefusal.Full) else fitting) else refusal_outcome s why.NotHere)
+    by true takes false fits = h
+    by true takes true fits = absurd (cc)
+    by false takes full fits = absurd (cc)

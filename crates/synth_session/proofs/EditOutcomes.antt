@@ -1,8 +1,9 @@
--- edit and cut_out: what comes of a key whose edit is made or refused, and what is counted in it, by what came of the
--- edit.
+-- edit, cut and undo_edit: what comes of a key whose edit is made or refused, and what is counted in it, by what came
+-- of the edit.
 use Rattle.std.proofs.Common.{◌≡◌, ◌+◌, ◌<◌, ◌≤◌, ℕ, List, Option, Some, None, option_map, true, refl, sym, ap, subst, ◌∙◌}
 use Rattle.std.specs.Prelude.{Ok}
 use Rattle.plcs_base.specs.PlainCounts.{PlainCounts}
+use Rattle.clip_store.specs.PlainClips.{PlainClips}
 use Rattle.clip_store.specs.PlainFragment.{PlainFragment}
 use Rattle.template_tree.specs.declared.tree_fault.TreeFault.{TreeFault}
 use Rattle.template_tree.specs.Positions.Stop.{IsStop, line_at, plain_stop}
@@ -21,8 +22,10 @@ use Rattle.synth_session.specs.KeyOutcome.{KeyOutcome, refusal_outcome}
 use Rattle.synth_session.specs.PlainSession.{PlainSession}
 use Rattle.synth_session.specs.Private.Faults.{CountsEdit, IsEditFault}
 use Rattle.synth_session.specs.Private.MemorylessKey.{HasOutcome}
-use Rattle.edit_undo.specs.EarlierTree.{trees_before}
-use Rattle.synth_session.specs.SessionView.{Agrees, Does, EditsFit, HasCode, IsReadyForKey, plain_run, plain_session}
+use Rattle.std.specs.List.{All}
+use Rattle.edit_undo.specs.EarlierTree.{EarlierTree, RingFits, trees_before}
+use Rattle.edit_undo.specs.declared.edit_record.EditRecord.{EditRecord}
+use Rattle.synth_session.specs.SessionView.{AgreeInTurn, Agrees, Does, EditsFit, HasCode, HasStop, IsReadyForKey, plain_run, plain_session}
 use Rattle.synth_session.proofs.CountedPrograms.{key_counted, key_free}
 use Rattle.synth_session.proofs.KeptRuns.{MayGoOnIfStands}
 use Rattle.synth_session.proofs.WantedCounts.{want_counted, want_free}
@@ -83,7 +86,21 @@ module _ {W : Type 0} where
       })
       same
 
-  -- and keeps its conditions, where what depends on the program is that of the program
+  -- a session with other clips keeps its conditions
+  pub ready_with_clips : (s : Session W) (clips : PlainClips) → IsReadyForKey s → IsReadyForKey (record s { clips = clips })
+  ready_with_clips s clips ready =
+      record {
+        session = record {
+          agrees = ready.session.agrees;
+          placed = record { stop = ready.session.placed.stop; top = ready.session.placed.top };
+          seen = record { from = ready.session.seen.from; to = ready.session.seen.to };
+        };
+        code = ready.code;
+        run = ready.run;
+        edits = ready.edits;
+      }
+
+  -- so does one whose program came to be the same without room, where what depends on the program is that of the program
   pub ready_without_room : (s : Session W) (program : Program W) → Agrees program → HasCode program
       → roomless_tree program.tree ≡ roomless_tree s.program.tree → IsReadyForKey s → IsReadyForKey (record s { program = program })
   ready_without_room s program agrees code same ready =
@@ -103,6 +120,52 @@ module _ {W : Type 0} where
         code = code;
         run = subst (λ (t : PlainTree). MayGoOnIfStands t (trees_before s.edits t) s.run.undos s.run.run) back ready.run;
         edits = subst (EditsFit s.edits) back ready.edits;
+      }
+
+  -- a session whose program came to be the same without room, and whose edits lead back to the same earlier trees, is
+  -- seen the same
+  pub seen_put_back : (s : Session W) (program : Program W) (edits : List EditRecord)
+      → roomless_tree program.tree ≡ roomless_tree s.program.tree
+      → trees_before edits (roomless_tree program.tree) ≡ trees_before s.edits (roomless_tree s.program.tree)
+      → plain_session (record s { program = program; edits = edits }) ≡ plain_session s
+  seen_put_back s program edits same earlier = λ i.
+      record (plain_session s) {
+        tree = same i;
+        run = option_map (plain_run (same i).items s.run.undos) s.run.run;
+        earlier = earlier i;
+      }
+
+  -- and keeps its conditions
+  pub ready_put_back : (s : Session W) (program : Program W) (edits : List EditRecord) → Agrees program → HasCode program
+      → RingFits edits (roomless_tree program.tree) → roomless_tree program.tree ≡ roomless_tree s.program.tree
+      → trees_before edits (roomless_tree program.tree) ≡ trees_before s.edits (roomless_tree s.program.tree)
+      → IsReadyForKey s → IsReadyForKey (record s { program = program; edits = edits })
+  ready_put_back s program edits agrees code fits same earlier ready =
+      let back = sym same in
+      let before = sym earlier in
+      let tree = roomless_tree program.tree in
+      let trees = trees_before s.edits (roomless_tree s.program.tree) in
+      record {
+        session = record {
+          agrees = agrees;
+          placed = record {
+            stop = subst (λ (t : PlainTree). IsStop t.items (plain_stop s.stop)) back ready.session.placed.stop;
+            top = ready.session.placed.top;
+          };
+          seen = record {
+            from = subst (λ (t : PlainTree). s.top ≤ line_at t.items (plain_stop s.stop)) back ready.session.seen.from;
+            to = subst (λ (t : PlainTree). line_at t.items (plain_stop s.stop) < s.top + window_rows s.screens.shown.rows) back ready.session.seen.to;
+          };
+        };
+        code = code;
+        run =
+            subst (λ (others : List EarlierTree). MayGoOnIfStands tree others s.run.undos s.run.run) before
+            (subst (λ (t : PlainTree). MayGoOnIfStands t trees s.run.undos s.run.run) back ready.run);
+        edits = record {
+          fits = fits;
+          stops = subst (All HasStop) before ready.edits.stops;
+          agree = subst (AgreeInTurn tree) before (subst (λ (t : PlainTree). AgreeInTurn t trees) back ready.edits.agree);
+        };
       }
 
 -- ---- what is counted

@@ -1,14 +1,16 @@
 -- The run that a session holds may go on, where a key begins it, takes steps of it back, or lets go of its earlier
 -- configurations.
-use Rattle.std.proofs.Common.{◌≡◌, ℕ, ◌-◌, false, List, [], ◌∷◌, length, min, Option, Some, None, refl, sym, ap, subst, ◌∙◌}
+use Rattle.std.proofs.Common.{◌≡◌, ℕ, zero, suc, ◌-◌, false, List, [], ◌∷◌, drop, length, min, Option, Some, None, refl, sym, ap, subst, ◌∙◌}
 use Rattle.std.proofs.Math.Bool.{false≢true}
 use Rattle.std.specs.Prelude.{IfSome, IsSome, is_some, option_map, unwrap_or}
 use Rattle.std.proofs.lemmas.List.Elements.{All-drop, All-head, All-nil, All-tail}
 use Rattle.std.specs.List.{All}
+use Rattle.session_words.specs.declared.message.Notice.{Notice}
 use Rattle.template_tree.specs.Checks.Marks.{Marks}
 use Rattle.template_tree.specs.Laws.RoomLaws.{TreesIgnoreRoom}
 use Rattle.template_tree.specs.Programs.PlainTree.{PlainTree, roomless_tree}
 use Rattle.template_tree.specs.Programs.Tree.{IsTree}
+use Rattle.plcs_store.specs.declared.kept.Kept.{Kept}
 use Rattle.plcs_store.specs.declared.reason.RunReason.{RunReason}
 use Rattle.plcs_store.specs.declared.run_state.Run.{Run}
 use Rattle.plcs_store.specs.declared.run_state.RunState.{RunState}
@@ -26,10 +28,14 @@ use Rattle.plcs_machine.specs.Fetched.{result_of}
 use Rattle.plcs_machine.specs.MachineLaws.{CodeBeginsAsTree}
 use Rattle.edit_undo.specs.EarlierTree.{EarlierTree}
 use Rattle.suspend_state.specs.Suspension.{paused}
+use Rattle.synth_session.specs.declared.answer.Refusal.TheVariants as why
+use Rattle.synth_session.specs.KeyOutcome.{KeyOutcome, line_notice_outcome, refusal_outcome}
 use Rattle.synth_session.specs.PlainHeldRun.{PlainHeldRun}
 use Rattle.synth_session.specs.PlainRun.{PlainRun, without_earlier}
+use Rattle.synth_session.specs.PlainSession.{PlainSession}
 use Rattle.synth_session.specs.ProgramCode.{code_of}
-use Rattle.synth_session.specs.RunCommands.{begun_run}
+use Rattle.synth_session.specs.RunCommands.{back_outcome, back_to, begun_run, from_back, run_back}
+use Rattle.synth_session.specs.RunStop.{with_cursor_at_run}
 use Rattle.synth_session.specs.Private.HeldRunKept.{WentBack, WentBackIfStands}
 use Rattle.synth_session.specs.SessionView.{CameToStand, MayGoOn, plain_run}
 
@@ -108,6 +114,48 @@ pub back_held : (tree : PlainTree) (earlier : List EarlierTree) (undos undos_now
 back_held tree earlier undos undos_now steps None now went fits = absurd went
 back_held tree earlier undos undos_now steps (Some run) now went fits =
     subst (FitsHeld tree earlier undos_now) (sym went.1) (run_back_fits tree earlier run went.0 undos undos_now steps fits went.2)
+
+-- ---- what comes of a key by which steps are taken back
+
+drop_none : (k : ℕ) → ◌≡◌ {A = List PlainConfiguration} (drop k []) []
+drop_none zero = refl
+drop_none (suc k) = refl
+
+-- the plain form of a run that went back
+back_plain : (tree : PlainTree) (undos : List Undo) (back : Run) → back.reason ≡ RunReason.Paused → back.kept ≡ None
+    → plain_run tree.items undos back
+    ≡ run_back tree (plain_configuration back.state) (configurations_before undos (plain_configuration back.state))
+back_plain tree undos back paused none =
+    ap (λ (reason : RunReason). let run : PlainRun = record (plain_run tree.items undos back) { reason = reason } in run) paused
+    ∙ ap (λ (kept : Option Kept).
+    let run : PlainRun = record (run_back tree (plain_configuration back.state) (configurations_before undos (plain_configuration back.state)))
+    { kept = unwrap_or kept (kept_of tree.items (plain_configuration back.state)) } in run) none
+
+module _ (s : PlainSession) (steps : ℕ) (undos : List Undo) where
+  -- where no run stands
+  pub back_runless : (held : Option Run) → is_some held ≡ false
+      → back_outcome s steps (option_map (plain_run s.tree.items undos) held) ≡ refusal_outcome s why.NoRun
+  back_runless None none = refl
+  back_runless (Some run) none = absurd (cc)
+
+  -- where no step is held
+  pub back_stays : (held : Option Run) → IsSome held → undos ≡ []
+      → back_outcome s steps (option_map (plain_run s.tree.items undos) held) ≡ refusal_outcome s why.NoHistory
+  back_stays None stands none = absurd (cc)
+  back_stays (Some run) stands none =
+      ap (λ (u : List Undo). back_to s (from_back steps (configurations_before u (plain_configuration run.state)))) none
+      ∙ ap (back_to s) (drop_none (min steps 0 - 1))
+
+  -- where the run went back
+  pub back_goes : (undos_now : List Undo) (held now : Option Run) → WentBackIfStands steps undos undos_now held now
+      → back_outcome s steps (option_map (plain_run s.tree.items undos) held)
+      ≡ line_notice_outcome (with_cursor_at_run (record s { run = option_map (plain_run s.tree.items undos_now) now })) Notice.Paused
+  back_goes undos_now None now went = absurd went
+  back_goes undos_now (Some run) now went =
+      let told : Option PlainRun → KeyOutcome = λ plain. line_notice_outcome (with_cursor_at_run (record s { run = plain })) Notice.Paused in
+      ap (back_to s) went.2.went
+      ∙ sym (ap (λ (plain : PlainRun). told (Some plain)) (back_plain s.tree undos_now went.0 went.2.reason went.2.dropped))
+      ∙ sym (ap (λ (h : Option Run). told (option_map (plain_run s.tree.items undos_now) h)) went.1)
 
 -- the same run in the same tree
 pub same_held : (tree tree_now : PlainTree) (earlier : List EarlierTree) (held now : PlainHeldRun) → tree_now ≡ tree → now ≡ held

@@ -1,4 +1,4 @@
--- keep_for_run, edit, cut_out and toggle_comment: before an edit what the program holds is kept for the run that
+-- keep_for_run, edit, cut and toggle_comment: before an edit what the program holds is kept for the run that
 -- stands, which changes nothing that is seen of it; afterwards it came to stand in a program with which this one
 -- agrees by its slots, and those to which can be gone back. Where a comment is turned it fits as before.
 use Rattle.std.proofs.Common.{◌≡◌, ℕ, ◌≤◌, Bool, true, List, Option, Some, None, is_some, option_map, slice_index_or, refl, sym, ap, subst, arith, ◌∙◌}

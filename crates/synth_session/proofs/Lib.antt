@@ -22,7 +22,8 @@ pub mod ShownStep
 pub mod AllSteps
 -- `TicksKeepProgram`, `ShownTicksGoOn`: the steps of ticks
 pub mod ShownTicks
--- `TextsHaveOneReply`, `does` of enter_text and `read` of read_phrase: what the parser answers is what the text is
+-- `TextsHaveOneReply`, clauses of enter_text and entered_phrase, and `read` of read_phrase: what the parser answers is what
+-- the text is
 pub mod StandingTexts
 -- the conditions of the trees to which can be gone back, in each command that changes the program
 pub mod EarlierAgreements
@@ -30,19 +31,20 @@ pub mod EarlierAgreements
 pub mod NotedStops
 -- clauses of stop_or_comment: where the cursor goes for a stop
 pub mod StopsOrComments
--- clauses of obey: what a command did that is obeyed, and what is counted then
+-- clauses of obey and of keys that may take memory: what a command did, and what is counted then
 pub mod ObeyedCommands
--- clauses of keep_for_run, edit, cut_out and toggle_comment: what is kept for the run that stands
+-- clauses of keep_for_run, edit, cut and toggle_comment: what is kept for the run that stands
 pub mod KeptRuns
--- clauses of accept_edit, edit and cut_out: an edit that is noted
+-- clauses of accept_edit, edit and cut: an edit that is noted
 pub mod NotedEdits
 -- clauses of undo_edit: the edits that are left
 pub mod UndoneEdits
 -- `UndoComesBack`, `EditsAreKept`: the session that comes back, and the edits that are kept
 pub mod UndoneSessions
--- clauses of edit and cut_out: what comes of an edit that is made or refused, and what is counted then
+-- clauses of edit, copy, cut and undo_edit: what comes of an edit that is made or refused, and what is counted then
 pub mod EditOutcomes
--- clauses of edit, cut_out, accept_edit and undo_edit: what comes of an edit that is made, or undone
+-- clauses of edit, copy, cut, accept_edit and undo_edit: what comes of an edit that is made, or undone, and of a clip
+-- that is filled
 pub mod AcceptedEdits
 -- `Answers` of toggle_comment: the cursor may stay at a comment that is turned
 pub mod TurnedStops
@@ -67,7 +69,7 @@ pub mod CodeRowTexts
 pub mod RunsTakenBack
 -- `code` of made_code, toggle_elision and prepare_code: the code that is kept of a tree
 pub mod ProgramCodes
--- `counts` of Dependents::renew, of cut and of keys that are refused: what is counted at most
+-- `counts` of Dependents::renew and of keys that are refused, and clauses of copy and cut: what is counted at most
 pub mod CountedPrograms
 -- the run of a session in begin_run, go_back and add_input
 pub mod FittingRuns

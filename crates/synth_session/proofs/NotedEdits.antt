@@ -1,4 +1,4 @@
--- accept_edit, edit and cut_out: an edit that was applied, and is noted, fits the program with the edits before it.
+-- accept_edit, edit and cut: an edit that was applied, and is noted, fits the program with the edits before it.
 use Rattle.std.proofs.Common.{◌≡◌, ◌≤◌, List, [], ◌∷◌, refl, sym, ap, subst, ◌∙◌}
 use Rattle.std.proofs.lemmas.List.Elements.{All-cons, All-nil}
 use Rattle.std.specs.List.{All}

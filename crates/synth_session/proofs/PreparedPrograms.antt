@@ -1,12 +1,13 @@
 -- An edit that is prepared in all that depends on a program: what each part asks of the tree before, what the code is
 -- mended by, how many phrases are checked, and how much is counted for the edit.
-use Rattle.std.proofs.Common.{◌≡◌, ℕ, ap, arith, length, option_map, refl, sym, subst, ◌∙◌}
+use Rattle.std.proofs.Common.{◌≡◌, ℕ, Bool, ap, arith, length, option_map, refl, sym, subst, ◌∙◌}
 use Rattle.std.specs.Prelude.{IfErr, Result, Ok, Err}
 use Rattle.plcs_base.specs.Mark.{MarkMap}
 use Rattle.plcs_base.specs.PlainCounts.{ChecksAtMost, PlainCounts}
 use Rattle.plcs_base.specs.Scope.{ItemMap}
 use Rattle.template_tree.specs.declared.change.Change.{Change}
 use Rattle.template_tree.specs.declared.change.What.{What}
+use Rattle.template_tree.specs.declared.tree_fault.TreeFault.{TreeFault}
 use Rattle.template_tree.specs.Checks.Marks.{VerdictMap, Verdicts, offences}
 use Rattle.template_tree.specs.Checks.ProgramMaps.{MarksTell, ScopeTells}
 use Rattle.template_tree.specs.Edits.Edit.{Differs}
@@ -24,17 +25,19 @@ use Rattle.type_marks.specs.PlainMarks.{PlainMarks}
 use Rattle.unparse_layout.specs.LayoutEdit.{PlainLayoutEdit}
 use Rattle.code_patch.specs.PreparedEdit.{PlainPrepared}
 use Rattle.code_patch.specs.KeptCodeLaws.{BillsIgnoreRoom, KeptCodeIgnoresRoom}
+use Rattle.session_edit.specs.AppliedEdit.{IsRefused}
 use Rattle.session_edit.specs.declared.applied.Applied.{Applied}
 use Rattle.session_edit.specs.Edited.{Edited}
 use Rattle.synth_session.specs.declared.program.Dependents.{Dependents}
 use Rattle.synth_session.specs.declared.program.Program.{Program}
 use Rattle.synth_session.specs.CountedKey.{CountsProgram}
-use Rattle.synth_session.specs.Private.Faults.{CountsEdit}
+use Rattle.synth_session.specs.Private.Faults.{CountsEdit, IsEditFault}
 use Rattle.synth_session.specs.Private.PreparedProgram.{AreChecksReady, CanBeCommitted, CountsRenewal, DependBefore, IsCodeReady, IsLayoutReady, IsSameButCodeRoom, IsSameButRoom}
 use Rattle.synth_session.specs.SessionView.{Agrees, HasCode}
 use Rattle.synth_session.specs.ProgramBill.{program_bill}
 use Rattle.synth_session.specs.ProgramDue.{program_due}
 use Rattle.synth_session.proofs.AgreeingDependents.{table_stays}
+use Rattle.synth_session.proofs.CountedPrograms.{program_free}
 
 -- the bill of an edit is the one without room
 bare_bill : BillsIgnoreRoom → (what : What) (slot : ℕ) (before after : PlainTree)
@@ -108,6 +111,19 @@ pub applied_counted : {W : Type 0} {counts now : PlainCounts} → BillsIgnoreRoo
 applied_counted {W} {counts} {now} bills dues dependents before after applied outcome was renewed became =
     subst (λ (o : Edited). CountsEdit (roomless_tree before) o counts now) (sym became)
     (bill_counted dependents before after applied.receipt.change was bills dues renewed)
+
+-- why an edit of the tree is refused is why the edit of the program is
+pub edit_fault : (takes_memory : Bool) (outcome : Edited) (fault : TreeFault) → IsRefused takes_memory outcome fault → IsEditFault outcome fault
+edit_fault takes_memory outcome TreeFault.NotHere is = is
+edit_fault takes_memory outcome TreeFault.TooDeep is = is
+edit_fault takes_memory outcome TreeFault.TooLarge is = is
+edit_fault takes_memory outcome TreeFault.SlotsUsedUp is = is
+edit_fault takes_memory outcome TreeFault.OutOfMemory is = tt
+
+-- nothing counted is within what an edit counts, whatever comes of it
+pub edit_free : (counts : PlainCounts) (before : PlainTree) (outcome : Edited) → CountsEdit before outcome counts counts
+edit_free counts before (Edited.became tree stop taken what slot) = program_free _ _
+edit_free counts before (Edited.refused fault) = refl
 
 -- the marks and the items after an edit tell of the edited program
 pub marks_tell : (tree : PlainTree) (marks : MarkMap) (verdicts : VerdictMap) → marks ≡ offences verdicts → verdicts ≡ Verdicts tree.items

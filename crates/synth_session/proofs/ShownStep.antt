@@ -1,10 +1,13 @@
 -- A step that is shown: where one may be made, what comes of the tick is what comes of trying it.
 use Rattle.std.proofs.Common.{arith, ◌≡◌, ℕ, suc, ◌+◌, ◌-◌, ◌<◌, Bool, true, false, if◌then◌else◌, [], Some, None, refl, sym, ap, ◌∙◌, subst}
 use Rattle.plcs_store.specs.declared.reason.RunReason.{RunReason}
+use Rattle.plcs_base.specs.PlainCounts.{PlainCounts}
+use Rattle.plcs_machine.specs.Fetched.{FetchesBy}
 use Rattle.synth_session.specs.declared.tick.Tick.{Tick}
 use Rattle.synth_session.specs.PlainSession.{PlainSession}
 use Rattle.synth_session.specs.Private.TickDone.{HasTried}
-use Rattle.synth_session.specs.Tick.{CallsNext, Steps, TickOutcome, WantsInTick, after_steps, one_step, rested_in, settled, shown_step, steps_left, ticked, tried}
+use Rattle.synth_session.specs.Tick.{CallsNext, Steps, TickOutcome, WantsInTick, after_steps, one_step, rested_in, settled, shown_step, steps_left, ticked, tried, with_pause}
+use Rattle.synth_session.proofs.CodeLines.{nothing_fetched}
 
 module _ (steps : Steps) (s now : PlainSession) (less : s.made < s.asked) where
   one_more : one_step steps (steps_left s) s ≡ shown_step (tried steps s)
@@ -68,3 +71,19 @@ module _ (steps : Steps) (s now : PlainSession) (less : s.made < s.asked) where
   shown_fetches =
       ap (λ (o : TickOutcome). o.fetches) one_more
       ∙ either_fetches (tried steps s).made (tried steps s).fetches (record (tried steps s).after { message = [] }) (tried steps s).after
+
+-- none is made where all are made that the key asked for
+module _ (steps : Steps) (s : PlainSession) (all : s.made ≡ s.asked) where
+  pauses : one_step steps (steps_left s) s ≡ ticked Tick.Over (with_pause s) 0
+  pauses =
+      let none : steps_left s ≡ 0 = omega (arith, all) in
+      ap (λ (n : ℕ). one_step steps n s) none
+
+  pub shows_pause : (last : PlainSession) (told : Tick) → last ≡ settled (rested_in s RunReason.Paused s.run) → told ≡ Tick.Over
+      → (last ≡ (one_step steps (steps_left s) s).after) × (told ≡ (one_step steps (steps_left s) s).tick)
+  shows_pause last told rested over =
+      (rested ∙ sym (ap (λ (o : TickOutcome). o.after) pauses), over ∙ sym (ap (λ (o : TickOutcome). o.tick) pauses))
+
+  pub pause_fetched : (counts : PlainCounts) → FetchesBy (one_step steps (steps_left s) s).fetches counts counts
+  pause_fetched counts =
+      subst (λ (o : TickOutcome). FetchesBy o.fetches counts counts) (sym pauses) (nothing_fetched counts)

@@ -1,11 +1,11 @@
 -- What a text is, and what the parser answers to it.
-use Rattle.std.proofs.Common.{◌≡◌, ◌==◌, ℕ, Bool, true, false, if◌then◌else◌, List, length, Option, Some, Result, Ok, Err, refl, sym, ap, subst}
-use Rattle.std.specs.Prelude.{IfOk, is_some}
-use Rattle.plcs_grammar.specs.Canon.{IsWellFormed}
+use Rattle.std.proofs.Common.{◌≡◌, ◌==◌, ℕ, Bool, true, false, if◌then◌else◌, List, length, Option, Some, None, Result, Ok, Err, refl, sym, ap, subst}
+use Rattle.std.specs.Prelude.{IfOk, is_some, nat_lt}
+use Rattle.plcs_grammar.specs.Canon.{Canon, IsWellFormed}
 use Rattle.plcs_grammar.specs.declared.category.Category.{Category}
 use Rattle.plcs_grammar.specs.declared.phrase.Phrase.{Phrase}
 use Rattle.plcs_grammar.specs.OverLimit.{OverLimit}
-use Rattle.plcs_grammar.specs.PlainPhrase.{category_of, plain_phrase}
+use Rattle.plcs_grammar.specs.PlainPhrase.{PlainPhrase, category_of, plain_phrase}
 use Rattle.plcs_base.specs.declared.memory.OutOfMemory.{OutOfMemory}
 use Rattle.phrase_parser.specs.declared.fault.PhraseFault.{PhraseFault}
 use Rattle.phrase_parser.specs.declared.fault.PhraseFault.TheVariants as fault_of
@@ -17,8 +17,11 @@ use Rattle.synth_session.specs.declared.answer.Answer.{Answer}
 use Rattle.synth_session.specs.declared.answer.Refusal.TheVariants as why
 use Rattle.session_words.specs.CommandLine.{begins_with_point}
 use Rattle.cursor_moves.specs.Move.{stop_right}
+use Rattle.template_tree.specs.Programs.Limit.{longest_phrase}
 use Rattle.session_edit.specs.Here.{category_at}
+use Rattle.session_edit.specs.PlainEdit.{PlainEdit}
 use Rattle.synth_session.specs.CursorKeys.{cursor_moved}
+use Rattle.synth_session.specs.EditCommands.{edited_by}
 use Rattle.synth_session.specs.EnteredLine.{command_line_outcome, line_entered, read_entered, standing_entered, text_entered}
 use Rattle.synth_session.specs.KeyOutcome.{KeyOutcome, refusal_outcome}
 use Rattle.synth_session.specs.KeyReply.{FilesDo, IsTextReply, Reply, Request, TextsHaveOneReply}
@@ -50,6 +53,17 @@ fault_entered s standing (fault_of.Syntax place) is isnt = ap (standing_entered 
 fault_entered s standing (fault_of.NumberTooLarge place) is isnt = ap (standing_entered s) is
 fault_entered s standing (fault_of.TooDeep place) is isnt = ap (standing_entered s) is
 fault_entered s standing fault_of.OutOfMemory is isnt = absurd (isnt refl)
+
+-- what comes of phrase text whose canonical text is too long, and of one that isn't
+pub long_entered : (s : PlainSession) (phrase : PlainPhrase) → nat_lt longest_phrase (length (Canon phrase)) ≡ true
+    → standing_entered s (Standing.phrase phrase) ≡ refusal_outcome s why.PhraseFull
+long_entered s phrase long =
+    ap (λ (over : Bool). if over then refusal_outcome s why.PhraseFull else edited_by s (PlainEdit.enter phrase)) long
+
+pub short_entered : (s : PlainSession) (phrase : PlainPhrase) → nat_lt longest_phrase (length (Canon phrase)) ≡ false
+    → standing_entered s (Standing.phrase phrase) ≡ edited_by s (PlainEdit.enter phrase)
+short_entered s phrase short =
+    ap (λ (over : Bool). if over then refusal_outcome s why.PhraseFull else edited_by s (PlainEdit.enter phrase)) short
 
 -- what can be replied to a text is what it is
 reply_is : (c : Category) (x : List ℕ) (standing : Standing) → ((other : Standing) → HasStanding c x other → other ≡ standing)
@@ -87,6 +101,12 @@ pub wanted_text : (s : PlainSession) (category : Category) → category_at s.tre
     → (P : Bool → Request → (Reply → KeyOutcome) → Type 0) → P true (Request.Read category s.typed) (read_entered s)
     → P (is_some (category_at s.tree s.stop)) (text_request s (category_at s.tree s.stop)) (text_entered s (category_at s.tree s.stop))
 wanted_text s category is P h = subst (λ (wanted : Option Category). P (is_some wanted) (text_request s wanted) (text_entered s wanted)) (sym is) h
+
+-- where it wants none
+pub unwanted_text : (s : PlainSession) → category_at s.tree s.stop ≡ None
+    → (P : Bool → Request → (Reply → KeyOutcome) → Type 0) → P false Request.Nothing (λ reply. refusal_outcome s why.NotHere)
+    → P (is_some (category_at s.tree s.stop)) (text_request s (category_at s.tree s.stop)) (text_entered s (category_at s.tree s.stop))
+unwanted_text s is P h = subst (λ (wanted : Option Category). P (is_some wanted) (text_request s wanted) (text_entered s wanted)) (sym is) h
 
 -- what files do that nothing is asked of, where a text is replied to
 pub read_files : (c : Category) (x : List ℕ) (standing : Standing) (files : PlainFiles) (result : Result Answer OutOfMemory)

@@ -115,6 +115,11 @@ module _ (before after : PlainTree) (edits left : List EditRecord) (told : Undon
         ap length (sym (ap (λ (e : List EditRecord). trees_before e (roomless_tree before)) none) ∙ undoes.earlier),
       ))
 
+-- where no edits are held there is no tree to go back to
+pub none_earlier : (edits : List EditRecord) (tree : PlainTree) → length edits ≡ 0 → trees_before edits tree ≡ []
+none_earlier [] tree none = refl
+none_earlier (edit ∷ edits) tree some = absurd (omega (arith, some))
+
 -- nothing is counted where none is undone
 pub none_counted : (counts : PlainCounts) (edits : List EditRecord) (tree : PlainTree) → CountsUndo edits tree counts counts
 none_counted counts edits tree = by (trees_before edits tree)

@@ -2,12 +2,7 @@
 use Rattle.std.proofs.Common.{◌≡◌, ℕ, refl, ap, arith}
 use Rattle.plcs_base.specs.PlainCounts.{PlainCounts}
 use Rattle.plcs_machine.specs.Fetched.{FetchesAtMost}
-use Rattle.std.specs.Prelude.{IsErr, Result, Ok, Err}
-use Rattle.plcs_base.specs.declared.memory.OutOfMemory.{OutOfMemory}
-use Rattle.synth_session.specs.declared.answer.Answer.{Answer}
 use Rattle.synth_session.specs.CountedKey.{CountsPressedAtMost, CountsProgram}
-use Rattle.synth_session.specs.KeyOutcome.{KeyOutcome}
-use Rattle.synth_session.specs.SessionView.{CountsOutcome, CountsWanted}
 
 -- nothing counted is within every bound
 pub want_free : {counts : PlainCounts} (checks emits fetches : ℕ) → CountsPressedAtMost checks emits fetches counts counts
@@ -52,9 +47,3 @@ want_fetched {before} {now} checks emits fetches c =
       fetched_later = c.later;
       laid = ap (λ (x : PlainCounts). x.laid) c.others;
     }
-
--- a key that is answered so, since memory ran out
-pub outcome_wanted : (outcome : KeyOutcome) (before now : PlainCounts) (result : Result Answer OutOfMemory) → IsErr result
-    → CountsWanted outcome before now → CountsOutcome outcome before now result
-outcome_wanted outcome before now (Ok answer) wants counts = absurd (cc)
-outcome_wanted outcome before now (Err error) wants counts = counts

@@ -1,7 +1,7 @@
 //! The keys and commands that move the cursor.
 ghost use Rattle.std.specs.Prelude.{◌≡◌, ◌==◌, IfSome, length, if◌then◌else◌};
-ghost use Rattle.template_tree.specs.Positions.Stop.{IsStop};
-ghost use Rattle.cursor_moves.specs.Move.{first_stop, last_stop, moved_to, stop_down, stop_left, stop_right, stop_up};
+ghost use Rattle.template_tree.specs.Positions.Stop.{IsStop, plain_stop};
+ghost use Rattle.cursor_moves.specs.Move.{moved_to, stop_down, stop_left, stop_right, stop_up};
 ghost use Rattle.synth_session.specs.CursorKeys.{cursor_goes, cursor_moved};
 ghost use Rattle.synth_session.specs.KeyOutcome.{line_acceptance_outcome, refusal_outcome};
 ghost use Rattle.synth_session.specs.Private.MemorylessKey.{HasOutcome};
@@ -9,8 +9,9 @@ ghost use Rattle.synth_session.specs.SessionView.{IsReadyForKey, plain_session};
 
 use crate::answer::{Answer, Refusal};
 use crate::session::Session;
-use cursor_moves::{Move, bottom, down, left, right, top, up};
+use cursor_moves::{Move, down, left, right, up};
 use plcs_base::Work;
+use template_tree::Stop;
 
 impl<W: Work> Session<W> {
     /// Does what Up asks for: moves the cursor to an earlier line.
@@ -49,27 +50,15 @@ impl<W: Work> Session<W> {
         self.go(to)
     }
 
-    /// Does what `.top` asks for: moves the cursor to the first stop.
-    pub(crate) fn go_to_top(&mut self) -> Answer
-        requires { IsReadyForKey self.old }
+    /// Does what `.top` and `.bottom` ask for: moves the cursor to the stop.
+    pub(crate) fn go_to(&mut self, stop: Stop) -> Answer
+        requires session { IsReadyForKey self.old }
+        requires stop { IsStop (plain_session self.old).tree.items (plain_stop stop) }
         ensures { HasOutcome
-            (line_acceptance_outcome
-            (record (plain_session self.old) { stop = first_stop (plain_session self.old).tree.items }))
+            (line_acceptance_outcome (record (plain_session self.old) { stop = plain_stop stop }))
             self.old self.new result }
     {
-        self.stop = top(&self.program.tree);
-        self.accept_line()
-    }
-
-    /// Does what `.bottom` asks for: moves the cursor to the last stop.
-    pub(crate) fn go_to_bottom(&mut self) -> Answer
-        requires { IsReadyForKey self.old }
-        ensures { HasOutcome
-            (line_acceptance_outcome
-            (record (plain_session self.old) { stop = last_stop (plain_session self.old).tree.items }))
-            self.old self.new result }
-    {
-        self.stop = bottom(&self.program.tree);
+        self.stop = stop;
         self.accept_line()
     }
 

@@ -23,7 +23,6 @@ use tree_steps::{agreement_lasts, edits_follow};
 
 impl<W: Work> Session<W> {
     /// Edits the program at the cursor, as a command or phrase text asks for, and takes the typed line.
-    #[tactic(auto, unfolding(crate::specs::EditCommands::edited_by))]
     pub(crate) fn edit(
         &mut self,
         alloc: Global,

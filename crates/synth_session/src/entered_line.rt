@@ -1,25 +1,26 @@
 //! What Enter does with the typed line, which is a command or phrase text.
-ghost use Rattle.std.specs.Prelude.{◌≡◌, ◌≤◌, ◌<◌, ◌^◌, IfOk, IsTrue, is_some, length, true};
-ghost use Rattle.plcs_base.specs.PlainCounts.{PlainCounts};
+ghost use Rattle.std.specs.Prelude.{◌≡◌, ◌≤◌, ◌<◌, ◌^◌, IfOk, IsTrue, Some, is_some, length};
 ghost use Rattle.plcs_grammar.specs.Canon.{IsWellFormed};
 ghost use Rattle.plcs_grammar.specs.PlainPhrase.{category_of, plain_phrase};
 ghost use Rattle.phrase_parser.specs.Standing.{HasStanding, Standing};
 ghost use Rattle.synth_outside.specs.Files.{PlainFiles};
 ghost use Rattle.session_words.specs.CommandLine.{begins_with_point};
 ghost use Rattle.session_words.specs.PlainCommand.{plain_command};
+ghost use Rattle.template_tree.specs.Programs.Part.{IsPhrasePlace};
 ghost use Rattle.session_edit.specs.Here.{category_at};
-ghost use Rattle.synth_session.specs.EnteredLine.{command_line_outcome, command_outcome, line_entered, standing_entered, text_entered};
+ghost use Rattle.synth_session.specs.EnteredLine.{command_line_outcome, command_outcome, line_entered, text_entered};
 ghost use Rattle.synth_session.specs.KeyReply.{Reply, Request};
 ghost use Rattle.synth_session.specs.KeyRequest.{command_line_request, command_request, line_request, text_request};
 ghost use Rattle.synth_session.specs.MemoryTaken.{command_line_takes_memory, command_takes_memory, line_takes_memory};
 ghost use Rattle.synth_session.specs.PlainSession.{PlainSession};
-ghost use Rattle.synth_session.specs.Private.Faults.{IsReadOf, IsTextFault};
+ghost use Rattle.synth_session.specs.Private.Faults.{IsEntered, IsReadOf};
 ghost use Rattle.synth_session.specs.SessionView.{CountsOutcome, Does, DoesByReply, IsReadyForKey, plain_session};
 
 use crate::answer::{Answer, Refusal};
 use crate::session::Session;
 use crate::typed_line::LINE_LIMIT;
 use arrayvec::ArrayVec;
+use cursor_moves::{bottom, top};
 use phrase_parser::{PhraseFault, one_standing, parse};
 use plcs_base::{OutOfMemory, Work};
 use plcs_grammar::{Category, Phrase, shown_len};
@@ -78,7 +79,11 @@ impl<W: Work> Session<W> {
             Ok(Command::Load(name)) => self.load(alloc, name, files, work),
             Ok(Command::Step(steps)) => self.step_on(alloc, steps, work),
             Ok(Command::Resume) => Ok(self.resume()),
-            Ok(command) => self.obey(alloc, command, work),
+            Ok(command) => {
+                let answer = self.obey(alloc, &command, work);
+                drop(command);
+                answer
+            }
             Err(CommandFault::UnknownCommand) => Ok(self.refuse(Refusal::UnknownCommand)),
             Err(CommandFault::WrongArgument) => Ok(self.refuse(Refusal::WrongArgument)),
         }
@@ -88,39 +93,45 @@ impl<W: Work> Session<W> {
     fn obey(
         &mut self,
         alloc: Global,
-        command: Command<'_>,
+        command: &Command<'_>,
         work: &mut W,
     ) -> Result<Answer, OutOfMemory>
         requires session { IsReadyForKey self.old }
-        requires unasked { (s : PlainSession) → command_request s (plain_command command) ≡ Request.Nothing }
-        ensures does { Does (command_takes_memory (plain_session self.old) (plain_command command.entry))
-            (command_outcome (plain_session self.old) (plain_command command.entry) Reply.NotAsked)
+        requires unasked { (s : PlainSession) → command_request s (plain_command command.now) ≡ Request.Nothing }
+        ensures does { Does (command_takes_memory (plain_session self.old) (plain_command command.now))
+            (command_outcome (plain_session self.old) (plain_command command.now) Reply.NotAsked)
             self.old self.new result }
         ensures counts { CountsOutcome
-            (command_outcome (plain_session self.old) (plain_command command.entry) Reply.NotAsked)
+            (command_outcome (plain_session self.old) (plain_command command.now) Reply.NotAsked)
             (W.counts work.old) (W.counts work.new) result }
     {
         match command {
-            Command::Template(template) => self.edit(alloc, Edit::Fill(template), work),
+            Command::Template(template) => self.edit(alloc, Edit::Fill(*template), work),
             Command::Float => Ok(self.refuse(Refusal::FloatNotThere)),
             Command::Before => self.edit(alloc, Edit::Beside(Side::Before), work),
             Command::After => self.edit(alloc, Edit::Beside(Side::After), work),
             Command::Del => self.edit(alloc, Edit::Delete, work),
             Command::Cut(name) => self.cut(alloc, name, work),
             Command::Copy(name) => self.copy(alloc, name),
-            Command::Insert(name) => self.insert(alloc, &name, work),
+            Command::Insert(name) => self.insert(alloc, name, work),
             Command::Elide => Ok(self.toggle_comment()),
             Command::Undo => self.undo_edit(alloc, work),
-            Command::Top => Ok(self.go_to_top()),
-            Command::Bottom => Ok(self.go_to_bottom()),
+            Command::Top => {
+                let stop = top(&self.program.tree);
+                Ok(self.go_to(stop))
+            }
+            Command::Bottom => {
+                let stop = bottom(&self.program.tree);
+                Ok(self.go_to(stop))
+            }
             Command::Quit => Ok(Answer::Quit),
             Command::Save(_) | Command::Load(_) | Command::Step(_) | Command::Resume =>
                 unreachable!(),
             Command::Run => self.run_anew(alloc, work),
-            Command::Back(steps) => Ok(self.go_back(steps)),
+            Command::Back(steps) => Ok(self.go_back(*steps)),
             Command::Trace => Ok(self.turn_trace()),
             Command::Input(text) => self.add_input(text),
-            Command::Code(from) => Ok(self.show_code(from)),
+            Command::Code(from) => Ok(self.show_code(*from)),
         }
     }
 
@@ -138,67 +149,37 @@ impl<W: Work> Session<W> {
         let Some(category) = wanted(&self.program.tree, &self.stop) else {
             return Ok(self.refuse(Refusal::NotHere));
         };
-        let read = read_phrase(alloc, category, self.typed.as_slice());
-        self.enter_read(alloc, read, work)
-    }
-
-    /// What Enter does with a typed line that was read as phrase text: the phrase is entered at the cursor, or
-    /// the key is refused for the fault.
-    fn enter_read(
-        &mut self,
-        alloc: Global,
-        read: Result<Phrase, PhraseFault>,
-        work: &mut W,
-    ) -> Result<Answer, OutOfMemory>
-        requires session { IsReadyForKey self.old }
-        requires sound { IfOk read (λ phrase. IsWellFormed (category_of (plain_phrase phrase)) (plain_phrase phrase)) }
-        ensures does { (standing : Standing) → IsReadOf standing read →
-            Does true (standing_entered (plain_session self.old) standing) self.old self.new result }
-        ensures counts { (standing : Standing) → IsReadOf standing read →
-            CountsOutcome (standing_entered (plain_session self.old) standing)
-            (W.counts work.old) (W.counts work.new) result }
-    {
-        match read {
-            Ok(phrase) => self.enter_phrase(alloc, phrase, work),
-            Err(fault) => self.refuse_text(fault),
+        match entered_phrase(alloc, category, self.typed.as_slice()) {
+            Ok(Ok(phrase)) => self.edit(alloc, Edit::Enter(phrase), work),
+            Ok(Err(why)) => Ok(self.refuse(why)),
+            Err(error) => Err(error),
         }
     }
+}
 
-    /// Enters a phrase that was read at the cursor, or refuses the key where the phrase is too long.
-    fn enter_phrase(
-        &mut self,
-        alloc: Global,
-        phrase: Phrase,
-        work: &mut W,
-    ) -> Result<Answer, OutOfMemory>
-        requires session { IsReadyForKey self.old }
-        requires sound { IsWellFormed (category_of (plain_phrase phrase)) (plain_phrase phrase) }
-        ensures does { Does true
-            (standing_entered (plain_session self.old) (Standing.phrase (plain_phrase phrase))) self.old self.new
-            result }
-        ensures counts { CountsOutcome
-            (standing_entered (plain_session self.old) (Standing.phrase (plain_phrase phrase)))
-            (W.counts work.old) (W.counts work.new) result }
-    {
-        if shown_len(&phrase) > LONGEST_PHRASE {
-            drop(phrase);
-            return Ok(self.refuse(Refusal::PhraseFull));
+/// The phrase that is entered for the typed line, which is phrase text of the category, or why it isn't entered.
+fn entered_phrase(
+    alloc: Global,
+    category: Category,
+    text: &[u8],
+) -> Result<Result<Phrase, Refusal>, OutOfMemory>
+    requires { length text.now < 2 ^ 32 }
+    ensures entered { (standing : Standing) × HasStanding category text.now standing × IsEntered standing result }
+    ensures stands { IfOk result (λ entered. IfOk entered (λ phrase. IsPhrasePlace (Some (plain_phrase phrase)))) }
+{
+    match read_phrase(alloc, category, text) {
+        Ok(phrase) => {
+            if shown_len(&phrase) > LONGEST_PHRASE {
+                drop(phrase);
+                Ok(Err(Refusal::PhraseFull))
+            } else {
+                Ok(Ok(phrase))
+            }
         }
-        self.edit(alloc, Edit::Enter(phrase), work)
-    }
-
-    /// Refuses the key for the fault of phrase text, unless memory ran out. Nothing is counted.
-    fn refuse_text(&mut self, fault: PhraseFault) -> Result<Answer, OutOfMemory>
-        requires session { IsReadyForKey self.old }
-        ensures does { (standing : Standing) → IsTextFault standing fault →
-            Does true (standing_entered (plain_session self.old) standing) self.old self.new result }
-        ensures counts { (standing : Standing) → (counts : PlainCounts) → IsTextFault standing fault →
-            CountsOutcome (standing_entered (plain_session self.old) standing) counts counts result }
-    {
-        match fault {
+        Err(fault) => match fault {
             PhraseFault::OutOfMemory => Err(OutOfMemory),
-            fault => Ok(self.refuse(Refusal::Phrase(fault))),
-        }
+            _ => Ok(Err(Refusal::Phrase(fault))),
+        },
     }
 }
 

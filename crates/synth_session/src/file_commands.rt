@@ -6,9 +6,8 @@ ghost use Rattle.template_tree.specs.Programs.Tree.{IsTree};
 ghost use Rattle.file_store.specs.Saved.{Saves};
 ghost use Rattle.synth_session.specs.FileCommands.{load_outcome, save_outcome};
 ghost use Rattle.synth_session.specs.KeyReply.{Reply, Request};
-ghost use Rattle.synth_session.specs.Private.MemorylessKey.{HasOutcome};
 ghost use Rattle.synth_session.specs.Private.UncountedKey.{DoesUncounted};
-ghost use Rattle.synth_session.specs.SessionView.{Agrees, CountsOutcome, Does, DoesByReply, HasCode, IsReadyForKey, IsSession, plain_session};
+ghost use Rattle.synth_session.specs.SessionView.{CountsOutcome, Does, DoesByReply, IsReadyForKey, IsSession, plain_session};
 
 use crate::answer::{Answer, Refusal};
 use crate::program::Program;
@@ -84,26 +83,16 @@ impl<W: Work> Session<W> {
             (W.counts work.old) (W.counts work.new) result }
     {
         match Program::new(alloc, tree, work) {
-            Ok(program) => Ok(self.begin_with(program)),
+            Ok(program) => {
+                self.stop = top(&program.tree);
+                self.program.give_way(program);
+                self.run.end();
+                self.edits.clear();
+                self.top = 0;
+                Ok(self.accept_line())
+            }
             Err(OutOfMemory) => Err(OutOfMemory),
         }
-    }
-
-    /// Begins with the program that the command `.load` has loaded, in place of the one that is edited, with
-    /// the cursor at main.
-    fn begin_with(&mut self, program: Program<W>) -> Answer
-        requires session { IsReadyForKey self.old }
-        requires agrees { Agrees program }
-        requires code { HasCode program }
-        ensures { HasOutcome (load_outcome (plain_session self.old) (Reply.Loaded (roomless_tree program.tree)))
-            self.old self.new result }
-    {
-        self.stop = top(&program.tree);
-        self.program.give_way(program);
-        self.run.end();
-        self.edits.clear();
-        self.top = 0;
-        self.accept_line()
     }
 
     /// Saves the listing of the session's program under the name `RESCUE`, where memory ran out. It takes no

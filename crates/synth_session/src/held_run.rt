@@ -6,26 +6,28 @@ ghost use Rattle.decl_table.specs.Agreement.{IsDeclsOf};
 ghost use Rattle.template_tree.specs.Programs.Tree.{IsTree};
 ghost use Rattle.plcs_store.specs.Configuration.{plain_configuration, plain_place, top_place};
 ghost use Rattle.back_steps.specs.EarlierConfigurations.{CanGoBack};
+ghost use Rattle.plcs_machine.specs.Enter.{Enter};
 ghost use Rattle.plcs_machine.specs.Exec.{Exec};
 ghost use Rattle.plcs_machine.specs.Fetched.{FetchesAtMost, FetchesBy, fetches_of, result_of};
 ghost use Rattle.plcs_machine.specs.StepMade.{MakesFrame};
 ghost use Rattle.resume_rule.specs.ResumeAnswer.{IsResumeAnswer};
-ghost use Rattle.suspend_state.specs.Suspension.{FitsUnlessKept, paused, with_reason};
+ghost use Rattle.suspend_state.specs.Suspension.{FitsUnlessKept, with_reason};
 ghost use Rattle.template_tree.specs.Programs.PlainTree.{Forest};
 ghost use Rattle.synth_session.specs.RunNotice.{stop_reason};
 ghost use Rattle.synth_session.specs.SessionScreen.{run_place};
 ghost use Rattle.synth_session.specs.SessionView.{plain_run};
-ghost use Rattle.synth_session.specs.Private.HeldRunKept.{CanBeAsked, GoesOnIfStands, KeepsIfStands, StaysIfHeld, StepsBack, TriesStep, TriesStepIfStands, WentBackIfStands};
+ghost use Rattle.synth_session.specs.Private.HeldRunKept.{BeginsRun, CanBeAsked, GoesOnIfStands, KeepsIfStands, StaysIfHeld, StepsBack, TriesStep, TriesStepIfStands, WentBack, WentBackIfStands};
 
 use back_steps::{History, NoHistory, states_keep_limits};
 use decl_table::Decls;
 use plcs_base::{OutOfMemory, Place, Work};
 use plcs_code::CodeView;
-use plcs_machine::{StepAnswer, step};
+use plcs_machine::{StepAnswer, start, step};
 use plcs_store::{Reason, ResumeRefusal, Run, RunReason, RunState, Undo};
 use resume_rule::may_resume;
 use std::alloc::Global;
 use std::marker::Model;
+use std::mem;
 use suspend_state::Suspending;
 use template_tree::Tree;
 
@@ -55,10 +57,10 @@ impl HeldRun {
         ensures run { IfOk result (λ held. held.run ≡ None) }
         ensures undos { IfOk result (λ held. held.undos ≡ []) }
     {
-        Ok(HeldRun {
-            run: None,
-            history: History::new(alloc)?,
-        })
+        match History::new(alloc) {
+            Ok(history) => Ok(HeldRun { run: None, history }),
+            Err(OutOfMemory) => Err(OutOfMemory),
+        }
     }
 
     /// Whether a run stands.
@@ -68,15 +70,29 @@ impl HeldRun {
         self.run.is_some()
     }
 
-    /// Holds a run that begins in this state, in place of the one that stands.
-    pub(crate) fn begin(&mut self, state: RunState)
-        requires values { state.operands.values ≡ [] }
-        requires arguments { state.operands.arguments ≡ [] }
-        ensures run { self.new.run ≡ Some (paused state) }
-        ensures undos { self.new.undos ≡ [] }
+    /// Begins a run of the code, in place of the one that stands. If memory runs out, that one stays.
+    pub(crate) fn begin<W: Work, C: CodeView<W>>(
+        &mut self,
+        alloc: Global,
+        code: &C,
+        work: &mut W,
+    ) -> Result<(), OutOfMemory>
+        requires begins { IsSome (Enter (C.code code.now)) }
+        ensures began { OnOk result (BeginsRun (result_of (Enter (C.code code.now))) self.new.run) }
+        ensures undos { OnOk result (self.new.undos ≡ []) }
+        ensures refused { OnErr result (self.new ≡ self.old) }
+        ensures counted { OnOk result (FetchesBy (fetches_of (Enter (C.code code.now)))
+            (W.counts work.old) (W.counts work.new)) }
+        ensures counts { FetchesAtMost (fetches_of (Enter (C.code code.now))) (W.counts work.old) (W.counts work.new) }
     {
-        self.history.clear();
-        self.run = Some(Run::new(state));
+        match start(alloc, code, work) {
+            Ok(state) => {
+                self.history.clear();
+                drop(mem::replace(&mut self.run, Some(Run::new(state))));
+                Ok(())
+            }
+            Err(OutOfMemory) => Err(OutOfMemory),
+        }
     }
 
     /// Drops the run that stands, if one does.
@@ -85,7 +101,7 @@ impl HeldRun {
         ensures undos { self.new.undos ≡ [] }
     {
         self.history.clear();
-        self.run = None;
+        drop(self.run.take());
     }
 
     /// Keeps of the program, before it is edited, what is asked for when the run goes on.
@@ -170,18 +186,10 @@ impl HeldRun {
         ensures back { OnOk result (WentBackIfStands steps self.old.undos self.new.undos self.old.run self.new.run) }
         ensures refused { OnErr result (self.new ≡ self.old) }
     {
-        let Some(mut run) = self.run.take() else {
+        let Some(run) = &mut self.run else {
             unreachable!()
         };
-        if let Err(NoHistory) = self.history.back(&mut run.state) {
-            self.run = Some(run);
-            return Err(NoHistory);
-        }
-        take_back(&mut self.history, &mut run.state, steps.saturating_sub(1));
-        run.reason = RunReason::Paused;
-        run.kept = None;
-        self.run = Some(run);
-        Ok(())
+        go_back(run, &mut self.history, steps)
     }
 
     /// Tries the next step of the run by the code, with this input: `None` where it was made, and else why the run
@@ -285,7 +293,7 @@ fn make_step<W: Work, C: CodeView<W>>(
     match step(alloc, code, input, &mut run.state, &mut undo, work) {
         Ok(StepAnswer::Stepped) => {
             history.note(undo);
-            run.kept = None;
+            drop(run.kept.take());
             Ok(None)
         }
         Ok(StepAnswer::Stopped(reason)) => {
@@ -301,6 +309,25 @@ fn make_step<W: Work, C: CodeView<W>>(
             Err(OutOfMemory)
         }
     }
+}
+
+/// Takes so many steps of a run back, or as many as are held; it is paused then.
+fn go_back(run: &mut Run, history: &mut History, steps: u32) -> Result<(), NoHistory>
+    requires able { CanGoBack history.old (plain_configuration run.old.state) }
+    ensures none { IsErr result ↔ (history.old ≡ []) }
+    ensures back { OnOk result (WentBack steps history.old history.new run.old run.new) }
+    ensures run { OnErr result (run.new ≡ run.old) }
+    ensures history { OnErr result (history.new ≡ history.old) }
+    ensures able { CanGoBack history.new (plain_configuration run.new.state) }
+    ensures operands { run.new.state.operands ≡ run.old.state.operands }
+{
+    if let Err(NoHistory) = history.back(&mut run.state) {
+        return Err(NoHistory);
+    }
+    take_back(history, &mut run.state, steps.saturating_sub(1));
+    run.reason = RunReason::Paused;
+    drop(run.kept.take());
+    Ok(())
 }
 
 /// Takes so many steps more of a run back, or as many as are held.

@@ -44,7 +44,6 @@ use template_tree::{
     Change, Path, Stop, Tree, TreeFault, checks_ignore_room_and_elision, edits_ignore_room,
     room_is_not_shown,
 };
-use tree_steps::edits_follow;
 use type_marks::{MarkEdit, Marks};
 use unparse_layout::{Layout, LayoutEdit, layouts_ignore_room};
 
@@ -75,13 +74,24 @@ impl<W: Work> Program<W> {
         ensures counts { CountsProgram (phrase_count (roomless_tree tree)) (code_length (roomless_tree tree))
             (W.counts work.old) (W.counts work.new) }
     {
-        let lines = LineCache::new(alloc)?;
-        let dependents = Dependents::of(alloc, &tree, work)?;
-        Ok(Program {
-            tree,
-            dependents,
-            lines,
-        })
+        match LineCache::new(alloc) {
+            Ok(lines) => match Dependents::of(alloc, &tree, work) {
+                Ok(dependents) => Ok(Program {
+                    tree,
+                    dependents,
+                    lines,
+                }),
+                Err(OutOfMemory) => {
+                    drop(tree);
+                    drop(lines);
+                    Err(OutOfMemory)
+                }
+            },
+            Err(OutOfMemory) => {
+                drop(tree);
+                Err(OutOfMemory)
+            }
+        }
     }
 
     /// Gives way to another program.
@@ -125,41 +135,27 @@ impl<W: Work> Program<W> {
             (edited (roomless_tree self.old.tree) (plain_stop at.now) (plain_edit edit))
             (W.counts work.old) (W.counts work.new) }
     {
-        room_is_not_shown();
-        edits_follow();
         edits_at_stops_are_steps();
         edits_ignore_room();
         kept_code_ignores_room_and_elision();
         due_are_counted();
         self.lines.forget();
-        let applied = apply(alloc, &mut self.tree, at, edit)?;
-        let change = applied.receipt.change();
-        match self.renew(alloc, &change, work) {
-            Ok(()) => Ok(applied),
-            Err(OutOfMemory) => {
-                layouts_ignore_room();
-                checks_ignore_room_and_elision();
-                tables_ignore_room_and_elision();
-                undo(&mut self.tree, applied);
-                Err(TreeFault::OutOfMemory)
+        match apply(alloc, &mut self.tree, at, edit) {
+            Ok(applied) => {
+                let change = applied.receipt.change();
+                match self.dependents.renew(alloc, &self.tree, &change, work) {
+                    Ok(()) => Ok(applied),
+                    Err(OutOfMemory) => {
+                        layouts_ignore_room();
+                        checks_ignore_room_and_elision();
+                        tables_ignore_room_and_elision();
+                        undo(&mut self.tree, applied);
+                        Err(TreeFault::OutOfMemory)
+                    }
+                }
             }
+            Err(fault) => Err(fault),
         }
-    }
-
-    /// Puts what depends on the tree in place, which was edited by this change, once all memory is taken that it needs.
-    /// Where memory runs out, what is in place stays, apart from room.
-    fn renew(&mut self, alloc: Global, change: &Change, work: &mut W) -> Result<(), OutOfMemory>
-        requires tree { IsTree self.old.tree }
-        requires before { (before : PlainTree) × DependBefore self.old.dependents before self.old.tree change.now }
-        ensures depend { IfOk result (λ _. DependOn self.new.dependents self.old.tree) }
-        ensures tree { self.new.tree ≡ self.old.tree }
-        ensures lines { self.new.lines ≡ self.old.lines }
-        ensures same { IfErr result (λ _. IsSameButRoom self.old.dependents self.new.dependents) }
-        ensures code { IfOk result (λ _. HasCode self.new) }
-        ensures counts { CountsRenewal self.old.dependents self.old.tree change.now
-            (W.counts work.old) (W.counts work.new) }
-    {
-        self.dependents.renew(alloc, &self.tree, change, work)
     }
 
     /// Undoes the newest of the edits in the program: the tree before it comes back, then that edit is prepared in all
@@ -191,26 +187,33 @@ impl<W: Work> Program<W> {
         edits_ignore_room();
         kept_code_ignores_room_and_elision();
         due_are_counted();
-        let undone = edits.undo(&mut self.tree)?;
-        self.lines.forget();
-        match self.renew(alloc, &undone.change, work) {
-            Ok(()) => {
-                let Undone {
-                    stop,
-                    receipt,
-                    back,
-                    ..
-                } = undone;
-                drop((receipt, back));
-                Ok(stop_or_comment(&self.tree, stop))
+        match edits.undo(&mut self.tree) {
+            Ok(undone) => {
+                self.lines.forget();
+                match self
+                    .dependents
+                    .renew(alloc, &self.tree, &undone.change, work)
+                {
+                    Ok(()) => {
+                        let Undone {
+                            stop,
+                            receipt,
+                            back,
+                            ..
+                        } = undone;
+                        drop((receipt, back));
+                        Ok(stop_or_comment(&self.tree, stop))
+                    }
+                    Err(OutOfMemory) => {
+                        layouts_ignore_room();
+                        checks_ignore_room_and_elision();
+                        tables_ignore_room_and_elision();
+                        edits.put_back(&mut self.tree, undone);
+                        Err(UndoFault::OutOfMemory)
+                    }
+                }
             }
-            Err(OutOfMemory) => {
-                layouts_ignore_room();
-                checks_ignore_room_and_elision();
-                tables_ignore_room_and_elision();
-                edits.put_back(&mut self.tree, undone);
-                Err(UndoFault::OutOfMemory)
-            }
+            Err(fault) => Err(fault),
         }
     }
 
@@ -391,16 +394,18 @@ impl<W: Work> Dependents<W> {
     {
         tables_ignore_room_and_elision();
         due_are_counted();
-        let decls = self.decls.prepare(alloc, tree, change)?;
-        match self
-            .marks
-            .prepare(alloc, tree, &self.decls, &decls, change, work)
-        {
-            Ok(marks) => Ok((decls, marks)),
-            Err(OutOfMemory) => {
-                drop(decls);
-                Err(OutOfMemory)
-            }
+        match self.decls.prepare(alloc, tree, change) {
+            Ok(decls) => match self
+                .marks
+                .prepare(alloc, tree, &self.decls, &decls, change, work)
+            {
+                Ok(marks) => Ok((decls, marks)),
+                Err(OutOfMemory) => {
+                    drop(decls);
+                    Err(OutOfMemory)
+                }
+            },
+            Err(OutOfMemory) => Err(OutOfMemory),
         }
     }
 
@@ -424,9 +429,16 @@ impl<W: Work> Dependents<W> {
         ensures code { IfOk result (λ edits. IsCodeReady edits.1 self.new.code tree.now) }
         ensures counts { EmitsBill self.old.code tree.now change.now (W.counts work.old) (W.counts work.new) }
     {
-        let code = self.prepare_code(alloc, tree, change, decls, marks, work)?;
-        let layout = self.layout.prepare(alloc, tree, change)?;
-        Ok((layout, code))
+        match self.prepare_code(alloc, tree, change, decls, marks, work) {
+            Ok(code) => match self.layout.prepare(alloc, tree, change) {
+                Ok(layout) => Ok((layout, code)),
+                Err(OutOfMemory) => {
+                    drop(code);
+                    Err(OutOfMemory)
+                }
+            },
+            Err(OutOfMemory) => Err(OutOfMemory),
+        }
     }
 
     /// Prepares the edit of the tree that made this change in the code, by the marks and the effective items after it,
@@ -504,12 +516,14 @@ fn checked<W: Work>(
     ensures counts { ChecksAtMost (phrase_count (roomless_tree tree.now))
         (W.counts work.old) (W.counts work.new) }
 {
-    let decls = Decls::new(alloc, tree)?;
-    match Marks::new(alloc, tree, &decls, work) {
-        Ok(marks) => Ok((decls, marks)),
-        Err(OutOfMemory) => {
-            drop(decls);
-            Err(OutOfMemory)
-        }
+    match Decls::new(alloc, tree) {
+        Ok(decls) => match Marks::new(alloc, tree, &decls, work) {
+            Ok(marks) => Ok((decls, marks)),
+            Err(OutOfMemory) => {
+                drop(decls);
+                Err(OutOfMemory)
+            }
+        },
+        Err(OutOfMemory) => Err(OutOfMemory),
     }
 }

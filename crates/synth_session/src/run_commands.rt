@@ -12,7 +12,7 @@ use back_steps::NoHistory;
 use file_store::FileRefusal;
 use plcs_base::{OutOfMemory, Work};
 use plcs_code::programs_have_one_code;
-use plcs_machine::{code_begins_as_tree, start};
+use plcs_machine::code_begins_as_tree;
 use plcs_store::{RunReason, new_runs_fit, runs_ignore_room_and_elision, unedited_may_resume};
 use resume_rule::{
     answers_ignore_room_and_elision, fitting_runs_are_resolved, kept_has_entries, resumed_runs_fit,
@@ -112,9 +112,13 @@ impl<W: Work> Session<W> {
         if !self.input.has_room(text) {
             return Ok(self.refuse(Refusal::File(FileRefusal::TooLong)));
         }
-        self.input.add_line(text)?;
-        self.run.forget();
-        Ok(self.accept_line())
+        match self.input.add_line(text) {
+            Ok(()) => {
+                self.run.forget();
+                Ok(self.accept_line())
+            }
+            Err(OutOfMemory) => Err(OutOfMemory),
+        }
     }
 
     /// Begins a run for so many steps, in place of the one that stands.
@@ -128,9 +132,10 @@ impl<W: Work> Session<W> {
         programs_have_one_code();
         room_is_not_shown();
         new_runs_fit();
-        let state = start(alloc, &self.program.dependents.code, work)?;
-        self.run.begin(state);
-        Ok(self.accept_running(steps))
+        match self.run.begin(alloc, &self.program.dependents.code, work) {
+            Ok(()) => Ok(self.accept_running(steps)),
+            Err(OutOfMemory) => Err(OutOfMemory),
+        }
     }
 
     /// Lets the run that stands for this reason go on for so many steps, if it may.

@@ -45,10 +45,16 @@ impl Screens {
         ensures next { IfOk result (λ screens. screens.next ≡ blank_grid size.rows size.cols) }
     {
         let (rows, cols) = (size.rows(), size.cols());
-        Ok(Screens {
-            shown: Grid::new(alloc, rows, cols)?,
-            next: Grid::new(alloc, rows, cols)?,
-        })
+        match Grid::new(alloc, rows, cols) {
+            Ok(shown) => match Grid::new(alloc, rows, cols) {
+                Ok(next) => Ok(Screens { shown, next }),
+                Err(OutOfMemory) => {
+                    drop(shown);
+                    Err(OutOfMemory)
+                }
+            },
+            Err(OutOfMemory) => Err(OutOfMemory),
+        }
     }
 
     /// How many rows the window of both screens has.
@@ -91,8 +97,12 @@ impl Screens {
         ensures rows { self.new.shown.rows ≡ self.old.shown.rows }
         ensures cols { self.new.shown.cols ≡ self.old.shown.cols }
     {
-        paint(&self.shown, &self.next, sink)?;
-        mem::swap(&mut self.shown, &mut self.next);
-        Ok(())
+        match paint(&self.shown, &self.next, sink) {
+            Ok(()) => {
+                mem::swap(&mut self.shown, &mut self.next);
+                Ok(())
+            }
+            Err(fault) => Err(fault),
+        }
     }
 }

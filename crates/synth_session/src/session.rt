@@ -80,39 +80,26 @@ impl Blank {
         ensures edits { IfOk result (λ blank. blank.edits ≡ []) }
     {
         match Screens::new(alloc, size) {
-            Ok(screens) => Blank::with_screens(alloc, screens),
-            Err(OutOfMemory) => Err(OutOfMemory),
-        }
-    }
-
-    /// These screens, rows of code, and nothing that is held.
-    fn with_screens(alloc: Global, screens: Screens) -> Result<Blank, OutOfMemory>
-        ensures screens { IfOk result (λ blank. blank.screens ≡ screens) }
-        ensures run { IfOk result (λ blank. blank.run.run ≡ None) }
-        ensures clips { IfOk result (λ blank. blank.clips.pairs ≡ []) }
-        ensures edits { IfOk result (λ blank. blank.edits ≡ []) }
-    {
-        match CodeRows::new(alloc) {
-            Ok(code_rows) => Blank::with_rows(alloc, screens, code_rows),
-            Err(OutOfMemory) => Err(OutOfMemory),
-        }
-    }
-
-    /// These screens and rows of code, and nothing that is held.
-    fn with_rows(alloc: Global, screens: Screens, code_rows: CodeRows) -> Result<Blank, OutOfMemory>
-        ensures screens { IfOk result (λ blank. blank.screens ≡ screens) }
-        ensures run { IfOk result (λ blank. blank.run.run ≡ None) }
-        ensures clips { IfOk result (λ blank. blank.clips.pairs ≡ []) }
-        ensures edits { IfOk result (λ blank. blank.edits ≡ []) }
-    {
-        match nothing_held(alloc) {
-            Ok((run, clips, edits)) => Ok(Blank {
-                screens,
-                code_rows,
-                run,
-                clips,
-                edits,
-            }),
+            Ok(screens) => match CodeRows::new(alloc) {
+                Ok(code_rows) => match nothing_held(alloc) {
+                    Ok((run, clips, edits)) => Ok(Blank {
+                        screens,
+                        code_rows,
+                        run,
+                        clips,
+                        edits,
+                    }),
+                    Err(OutOfMemory) => {
+                        drop(code_rows);
+                        drop(screens);
+                        Err(OutOfMemory)
+                    }
+                },
+                Err(OutOfMemory) => {
+                    drop(screens);
+                    Err(OutOfMemory)
+                }
+            },
             Err(OutOfMemory) => Err(OutOfMemory),
         }
     }
@@ -170,10 +157,13 @@ impl<W: Work> Session<W> {
                 let stop = top(&tree);
                 Session::begin(alloc, size, tree, stop, input, work)
             }
-            None => {
-                let tree = new_tree(alloc)?;
-                Session::begin(alloc, size, tree, new_stop(), input, work)
-            }
+            None => match new_tree(alloc) {
+                Ok(tree) => Session::begin(alloc, size, tree, new_stop(), input, work),
+                Err(OutOfMemory) => {
+                    drop(input);
+                    Err(OutOfMemory)
+                }
+            },
         }
     }
 
@@ -198,39 +188,19 @@ impl<W: Work> Session<W> {
             (W.counts work.old) (W.counts work.new) }
     {
         match Blank::new(alloc, size) {
-            Ok(blank) => Session::begin_blank(alloc, tree, stop, input, blank, work),
-            Err(OutOfMemory) => Err(OutOfMemory),
-        }
-    }
-
-    /// A session over the tree, with the cursor at the stop, with this input, and with nothing held yet.
-    fn begin_blank(
-        alloc: Global,
-        tree: Tree,
-        stop: Stop,
-        input: Vec<u8>,
-        blank: Blank,
-        work: &mut W,
-    ) -> Result<Session<W>, OutOfMemory>
-        requires tree { IsTree tree }
-        requires stop { IsStop (roomless_tree tree).items (plain_stop stop) }
-        requires input { length input.items ≤ longest_input }
-        requires run { blank.run.run ≡ None }
-        requires clips { blank.clips.pairs ≡ [] }
-        requires edits { blank.edits ≡ [] }
-        ensures session { IfOk result (λ session. IsReadyForKey session) }
-        ensures opened { IfOk result (λ session. plain_session session
-            ≡ session_over (record { rows = blank.screens.shown.rows; cols = blank.screens.shown.cols })
-            (roomless_tree tree) (plain_stop stop) input.items) }
-        ensures shown { IfOk result (λ session. shown_grid session ≡ blank.screens.shown) }
-        ensures next { IfOk result (λ session. next_grid session ≡ blank.screens.next) }
-        ensures counts { CountsProgram (phrase_count (roomless_tree tree)) (code_length (roomless_tree tree))
-            (W.counts work.old) (W.counts work.new) }
-    {
-        match Program::new(alloc, tree, work) {
-            Ok(program) => Ok(Session::over(program, stop, input, blank)),
+            Ok(blank) => match Program::new(alloc, tree, work) {
+                Ok(program) => Ok(Session::over(program, stop, input, blank)),
+                Err(OutOfMemory) => {
+                    drop(blank);
+                    drop(input);
+                    drop(stop);
+                    Err(OutOfMemory)
+                }
+            },
             Err(OutOfMemory) => {
-                drop(blank);
+                drop(input);
+                drop(stop);
+                drop(tree);
                 Err(OutOfMemory)
             }
         }
@@ -316,6 +286,11 @@ impl<W: Work> Session<W> {
         ensures next { next_grid self.new ≡ next_grid self.old }
     {
         self.message = refusal.message();
+    }
+
+    /// Closes the session, and lets go of all that it holds.
+    pub fn close(self) {
+        drop(self);
     }
 }
 

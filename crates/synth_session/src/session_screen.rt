@@ -1,5 +1,6 @@
 //! The screen of a session, with the prompt, drawn and painted.
 ghost use Rattle.std.specs.Prelude.{◌≡◌, ◌+◌, ◌*◌, ◌≤◌, ◌++◌, IfSome, length, map, option_map, take, OnErr, OnOk};
+ghost use Rattle.std.specs.Option.{option_map_or};
 ghost use Rattle.arrayvec.specs.ArrayVec.{array_vec_len};
 ghost use Rattle.plcs_base.specs.PlainCounts.{LaysAtMost};
 ghost use Rattle.template_tree.specs.Checks.Marks.{Marks};
@@ -11,13 +12,16 @@ ghost use Rattle.plcs_machine.specs.Fetched.{FetchesBy};
 ghost use Rattle.screen_window.specs.Paint.{Paint};
 ghost use Rattle.screen_window.specs.Screen.{Screen, window_rows};
 ghost use Rattle.screen_window.specs.Writes.{Writes};
+ghost use Rattle.synth_session.specs.declared.code_rows.TheConstants.{MOST_CODE_ROWS};
 ghost use Rattle.synth_session.specs.declared.session_screen.TheConstants.{LONGEST_PROMPT};
 ghost use Rattle.synth_session.specs.CountedKey.{CountsScreen};
+ghost use Rattle.synth_session.specs.ProgramCode.{code_rows};
 ghost use Rattle.synth_session.specs.RefusalText.{shown_message};
-ghost use Rattle.synth_session.specs.SessionScreen.{grid, prompt, screen_fetches, shown_code, sort_word, word_at};
-ghost use Rattle.synth_session.specs.SessionView.{Agrees, HasProgramCode, IsReadyForKey, IsSession, next_grid, plain_session, shown_grid};
+ghost use Rattle.synth_session.specs.SessionScreen.{grid, prompt, screen_fetches, sort_word, word_at};
+ghost use Rattle.synth_session.specs.SessionView.{Agrees, HasCode, HasProgramCode, IsReadyForKey, IsSession, next_grid, plain_session, shown_grid};
 
 use crate::code_command::code_span;
+use crate::code_rows::CodeRows;
 use crate::program::Program;
 use crate::screens::Screens;
 use crate::session::Session;
@@ -49,7 +53,14 @@ impl<W: Work> Session<W> {
     {
         let prompt = prompt(&self.program.tree, &self.stop);
         let text = shown_text(self.message);
-        let shown = self.shown_code(work);
+        let shown = shown_code(
+            &mut self.code_rows,
+            &self.program,
+            &self.stop,
+            self.code_from,
+            self.screens.window_rows(),
+            work,
+        );
         draw_on(
             &mut self.screens,
             &mut self.program,
@@ -65,27 +76,6 @@ impl<W: Work> Session<W> {
         );
     }
 
-    /// Fills the rows of code that the session shows, and tells how many there are, if code is shown.
-    fn shown_code(&mut self, work: &mut W) -> Option<usize>
-        requires session { IsSession self.old }
-        requires code { HasProgramCode self.old }
-        ensures rows { option_map (λ count. take count self.new.code_rows) result
-            ≡ shown_code (plain_session self.old) }
-        ensures few { IfSome result (λ count. count ≤ length self.new.code_rows) }
-        ensures same { plain_session self.new ≡ plain_session self.old }
-        ensures program { self.new.program ≡ self.old.program }
-        ensures run { self.new.run ≡ self.old.run }
-        ensures edits { self.new.edits ≡ self.old.edits }
-        ensures screens { self.new.screens ≡ self.old.screens }
-        ensures counted { FetchesBy (screen_fetches (plain_session self.old)) (W.counts work.old) (W.counts work.new) }
-    {
-        let from = self.code_from?;
-        let rows = self.screens.window_rows();
-        let (start, count) = code_span(&self.program, &self.stop);
-        let code = &self.program.dependents.code;
-        Some(self.code_rows.fill(code, start, count, from, rows, work))
-    }
-
     /// Paints the session's screen that was drawn last over the one that was painted last.
     pub fn paint<K: Sink>(&mut self, sink: &mut K) -> Result<(), SinkFault>
         requires { IsSession self.old }
@@ -99,6 +89,36 @@ impl<W: Work> Session<W> {
         ensures same { plain_session self.new ≡ plain_session self.old }
     {
         self.screens.paint(sink)
+    }
+}
+
+/// Fills the first rows, at most so many, with the code of the node at the stop from the instruction of this number on, if
+/// code is shown, and tells how many rows are filled.
+fn shown_code<W: Work>(
+    filled: &mut CodeRows,
+    program: &Program<W>,
+    stop: &Stop,
+    from: Option<u32>,
+    rows: u16,
+    work: &mut W,
+) -> Option<usize>
+    requires agrees { Agrees program.now }
+    requires code { HasCode program.now }
+    requires stop { IsStop (roomless_tree program.now.tree).items (plain_stop stop.now) }
+    requires few { rows ≤ MOST_CODE_ROWS }
+    ensures rows { option_map (λ count. take count filled.new) result
+        ≡ option_map (code_rows rows (roomless_tree program.now.tree) (plain_stop stop.now)) from }
+    ensures few { IfSome result (λ count. count ≤ length filled.new) }
+    ensures counted { FetchesBy
+        (option_map_or length (option_map (code_rows rows (roomless_tree program.now.tree) (plain_stop stop.now)) from) 0)
+        (W.counts work.old) (W.counts work.new) }
+{
+    match from {
+        Some(from) => {
+            let (start, count) = code_span(program, stop);
+            Some(filled.fill(&program.dependents.code, start, count, from, rows, work))
+        }
+        None => None,
     }
 }
 

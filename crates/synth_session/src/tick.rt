@@ -20,6 +20,7 @@ use resume_rule::{fitting_runs_are_resolved, resumed_runs_fit};
 use session_edit::shown_stop;
 use session_words::Message;
 use std::alloc::Global;
+use std::mem;
 use template_tree::room_is_not_shown;
 
 /// What came of a tick.
@@ -184,12 +185,16 @@ impl<W: Work> Session<W> {
             → RunFits (plain_session self.new) }
     {
         steps_of_programs();
-        match self.run.try_step(
+        let Ok(tried) = self.run.try_step(
             alloc,
             &self.program.dependents.code,
             self.input.as_slice(),
             work,
-        )? {
+        )
+        else {
+            return Err(OutOfMemory);
+        };
+        match tried {
             None => {
                 self.made += 1;
                 Ok(None)
@@ -248,7 +253,7 @@ impl<W: Work> Session<W> {
             return;
         };
         if let Some(stop) = shown_stop(&self.program.tree, place.slot) {
-            self.stop = stop;
+            drop(mem::replace(&mut self.stop, stop));
         }
     }
 }

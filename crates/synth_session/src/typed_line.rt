@@ -1,13 +1,15 @@
 //! The typed line, the keys that change it, and the phrase at the cursor, which Tab takes into it.
-ghost use Rattle.std.specs.Prelude.{◌≡◌, ◌≤◌, ◌<◌, length, option_map, IfNone, IfSome, None};
+ghost use Rattle.std.specs.Prelude.{◌≡◌, ◌≤◌, ◌<◌, length, option_map, IfErr, IfNone, IfOk, IfSome, None};
 ghost use Rattle.plcs_grammar.specs.Canon.{Canon};
 ghost use Rattle.plcs_grammar.specs.PlainPhrase.{plain_phrase};
 ghost use Rattle.template_tree.specs.Programs.PlainTree.{roomless_tree};
 ghost use Rattle.template_tree.specs.Positions.Stop.{plain_stop};
 ghost use Rattle.template_tree.specs.Programs.Tree.{IsTree};
+ghost use Rattle.synth_session.specs.KeyOutcome.{acceptance_outcome, refusal_outcome};
+ghost use Rattle.synth_session.specs.PlainSession.{PlainSession};
 ghost use Rattle.synth_session.specs.Private.MemorylessKey.{HasOutcome};
 ghost use Rattle.synth_session.specs.SessionView.{IsReadyForKey, plain_session};
-ghost use Rattle.synth_session.specs.TypedLine.{char_typed, cursor_phrase, last_erased, phrase_typed};
+ghost use Rattle.synth_session.specs.TypedLine.{char_typed, cursor_phrase, last_erased, phrase_typed, text_typed};
 
 use crate::answer::{Answer, Refusal};
 use crate::session::Session;
@@ -52,14 +54,13 @@ impl<W: Work> Session<W> {
         if !self.typed.is_empty() {
             return self.refuse(Refusal::NotHere);
         }
-        let Some(phrase) = phrase_at(&self.program.tree, &self.stop) else {
-            return self.refuse(Refusal::NotHere);
-        };
-        let Some(text) = line_text(phrase) else {
-            return self.refuse(Refusal::PhraseFull);
-        };
-        self.typed = text;
-        self.accept()
+        match text_at(&self.program.tree, &self.stop) {
+            Ok(text) => {
+                self.typed = text;
+                self.accept()
+            }
+            Err(why) => self.refuse(why),
+        }
     }
 }
 
@@ -76,6 +77,24 @@ pub(crate) fn phrase_at<'a>(tree: &'a Tree, stop: &Stop) -> Option<&'a Phrase>
     match node.part(cursor_part(node.kind(), stop.part)?) {
         Some(PhrasePlace::Filled(phrase)) => Some(phrase),
         _ => None,
+    }
+}
+
+/// The text that Tab takes into the typed line for the phrase at the stop, or why there is none.
+fn text_at(tree: &Tree, at: &Stop) -> Result<ArrayVec<u8, LINE_LIMIT>, Refusal>
+    requires { IsTree tree.now }
+    ensures text { IfOk result (λ text. (s : PlainSession)
+        → text_typed s (cursor_phrase (roomless_tree tree.now) (plain_stop at.now))
+        ≡ acceptance_outcome (record s { typed = text.items })) }
+    ensures refused { IfErr result (λ why. (s : PlainSession)
+        → text_typed s (cursor_phrase (roomless_tree tree.now) (plain_stop at.now)) ≡ refusal_outcome s why) }
+{
+    match phrase_at(tree, at) {
+        Some(phrase) => match line_text(phrase) {
+            Some(text) => Ok(text),
+            None => Err(Refusal::PhraseFull),
+        },
+        None => Err(Refusal::NotHere),
     }
 }
 

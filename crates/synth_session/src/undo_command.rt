@@ -1,12 +1,6 @@
 //! The command that takes back the newest edit that is kept.
-ghost use Rattle.std.specs.Prelude.{◌*◌, ◌≤◌, true};
-ghost use Rattle.template_tree.specs.Programs.Limit.{most_slots};
-ghost use Rattle.template_tree.specs.Positions.Stop.{IsStop, plain_stop};
-ghost use Rattle.synth_session.specs.EditCommands.{session_with};
-ghost use Rattle.synth_session.specs.KeyOutcome.{line_acceptance_outcome};
-ghost use Rattle.synth_session.specs.Private.KeptRun.{HasForgottenRun};
-ghost use Rattle.synth_session.specs.Private.MemorylessKey.{HasOutcome};
-ghost use Rattle.synth_session.specs.SessionView.{Agrees, CountsOutcome, Does, HasFittingEdits, HasProgramCode, IsReadyForKey, plain_session};
+ghost use Rattle.std.specs.Prelude.{true};
+ghost use Rattle.synth_session.specs.SessionView.{CountsOutcome, Does, IsReadyForKey, plain_session};
 ghost use Rattle.synth_session.specs.UndoCommand.{undo_outcome};
 
 use crate::answer::{Answer, Refusal};
@@ -14,7 +8,6 @@ use crate::session::Session;
 use edit_undo::{UndoFault, undone_trees_check_alike};
 use plcs_base::{OutOfMemory, Work};
 use std::alloc::Global;
-use template_tree::{Stop, room_is_not_shown};
 use tree_steps::agreement_lasts;
 
 impl<W: Work> Session<W> {
@@ -25,35 +18,22 @@ impl<W: Work> Session<W> {
         ensures counts { CountsOutcome (undo_outcome (plain_session self.old))
             (W.counts work.old) (W.counts work.new) result }
     {
-        room_is_not_shown();
         agreement_lasts();
         undone_trees_check_alike();
         if self.edits.held() == 0 {
             return Ok(self.refuse(Refusal::NothingToUndo));
         }
-        self.keep_for_run(alloc)?;
-        match self.program.undo(alloc, &mut self.edits, work) {
-            Ok(stop) => Ok(self.accept_undo(stop)),
-            Err(UndoFault::OutOfMemory) => Err(OutOfMemory),
-            Err(UndoFault::NothingToUndo) => unreachable!(),
+        match self.keep_for_run(alloc) {
+            Ok(()) => match self.program.undo(alloc, &mut self.edits, work) {
+                Ok(stop) => {
+                    self.run.forget();
+                    self.stop = stop;
+                    Ok(self.accept_line())
+                }
+                Err(UndoFault::OutOfMemory) => Err(OutOfMemory),
+                Err(UndoFault::NothingToUndo) => unreachable!(),
+            },
+            Err(OutOfMemory) => Err(OutOfMemory),
         }
-    }
-
-    /// Accepts a key that undid an edit, with the cursor at the stop.
-    fn accept_undo(&mut self, stop: Stop) -> Answer
-        requires agrees { Agrees self.old.program }
-        requires stop { IsStop (plain_session self.old).tree.items (plain_stop stop) }
-        requires top { self.old.top ≤ 4 * most_slots }
-        requires code { HasProgramCode self.old }
-        requires run { HasForgottenRun self.old (plain_session self.old).earlier }
-        requires edits { HasFittingEdits self.old }
-        ensures { HasOutcome
-            (line_acceptance_outcome
-            (session_with (plain_session self.old) (plain_session self.old).tree (plain_stop stop)))
-            self.old self.new result }
-    {
-        self.run.forget();
-        self.stop = stop;
-        self.accept_line()
     }
 }

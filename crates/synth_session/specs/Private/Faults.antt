@@ -5,12 +5,19 @@ use Rattle.plcs_grammar.specs.OverLimit.{OverLimit}
 use Rattle.plcs_grammar.specs.PlainPhrase.{plain_phrase}
 use Rattle.phrase_parser.specs.Standing.{Standing}
 use Rattle.phrase_parser.specs.declared.fault.PhraseFault.{PhraseFault}
-use Rattle.phrase_parser.specs.declared.fault.PhraseFault.TheVariants.{Syntax, NumberTooLarge, TooDeep, OutOfMemory}
+use Rattle.phrase_parser.specs.declared.fault.PhraseFault.TheVariants as fault_of
 use Rattle.template_tree.specs.declared.tree_fault.TreeFault.{TreeFault}
 use Rattle.template_tree.specs.Programs.PlainTree.{PlainTree}
 use Rattle.session_edit.specs.Edited.{Edited}
+use Rattle.session_edit.specs.PlainEdit.{PlainEdit}
 use Rattle.plcs_base.specs.PlainCounts.{CountsNothing, PlainCounts}
+use Rattle.plcs_base.specs.declared.memory.OutOfMemory.{OutOfMemory}
+use Rattle.synth_session.specs.declared.answer.Refusal.{Refusal}
 use Rattle.synth_session.specs.CountedKey.{CountsProgram}
+use Rattle.synth_session.specs.EditCommands.{edited_by}
+use Rattle.synth_session.specs.EnteredLine.{standing_entered}
+use Rattle.synth_session.specs.KeyOutcome.{refusal_outcome}
+use Rattle.synth_session.specs.PlainSession.{PlainSession}
 use Rattle.synth_session.specs.ProgramBill.{program_bill}
 use Rattle.synth_session.specs.ProgramDue.{program_due}
 
@@ -32,12 +39,20 @@ CountsEdit program (Edited.refused fault) before now = CountsNothing before now
 
 -- the fault is that of phrase text of this standing; want of memory says nothing of it
 abbrev pub IsTextFault : Standing → PhraseFault → Type 0
-IsTextFault standing (Syntax place) = standing ≡ Standing.wrong_at place
-IsTextFault standing (NumberTooLarge place) = standing ≡ Standing.over (OverLimit.number_too_large place)
-IsTextFault standing (TooDeep place) = standing ≡ Standing.over (OverLimit.too_deep place)
-IsTextFault standing OutOfMemory = Unit {0}
+IsTextFault standing (fault_of.Syntax place) = standing ≡ Standing.wrong_at place
+IsTextFault standing (fault_of.NumberTooLarge place) = standing ≡ Standing.over (OverLimit.number_too_large place)
+IsTextFault standing (fault_of.TooDeep place) = standing ≡ Standing.over (OverLimit.too_deep place)
+IsTextFault standing fault_of.OutOfMemory = Unit {0}
 
 -- this was read of phrase text of this standing: its phrase, or the fault for which the phrase text isn't entered
 abbrev pub IsReadOf : Standing → Result Phrase PhraseFault → Type 0
 IsReadOf standing (Ok phrase) = standing ≡ Standing.phrase (plain_phrase phrase)
 IsReadOf standing (Err fault) = IsTextFault standing fault
+
+-- this comes of entering phrase text of this standing: its phrase is entered, or the key is refused; want of memory says
+-- nothing of it
+abbrev pub IsEntered : Standing → Result (Result Phrase Refusal) OutOfMemory → Type 0
+IsEntered standing (Ok (Ok phrase)) =
+    (s : PlainSession) → standing_entered s standing ≡ edited_by s (PlainEdit.enter (plain_phrase phrase))
+IsEntered standing (Ok (Err reason)) = (s : PlainSession) → standing_entered s standing ≡ refusal_outcome s reason
+IsEntered standing (Err error) = Unit {0}

@@ -3,17 +3,24 @@ use Rattle.std.specs.Prelude.{◌≡◌, ◌⊎◌, ℕ, List, [], ◌∷◌, dr
 use Rattle.template_tree.specs.Programs.PlainTree.{Forest}
 use Rattle.plcs_store.specs.declared.reason.RunReason.{RunReason}
 use Rattle.plcs_store.specs.declared.run_state.Run.{Run}
+use Rattle.plcs_store.specs.declared.run_state.RunState.{RunState}
 use Rattle.plcs_store.specs.declared.undo.Undo.{Undo}
 use Rattle.plcs_store.specs.Configuration.{PlainConfiguration, plain_configuration}
 use Rattle.plcs_store.specs.Fits.{Fits}
 use Rattle.plcs_store.specs.Resume.{resolved}
 use Rattle.plcs_store.specs.Step.{PlainStepAnswer}
-use Rattle.suspend_state.specs.Suspension.{Keeps}
+use Rattle.suspend_state.specs.Suspension.{Keeps, paused}
 use Rattle.resume_rule.specs.ResumeAnswer.{HasEntries}
 use Rattle.back_steps.specs.EarlierConfigurations.{configurations_before}
 use Rattle.back_steps.specs.Limit.{most_records}
 use Rattle.synth_session.specs.RunCommands.{from_back}
 use Rattle.synth_session.specs.RunNotice.{stop_reason}
+
+-- ---- a new run
+
+-- a run began in what the code begins in, if it does, and is held: it is paused, and nothing is kept for it
+abbrev pub BeginsRun : Option PlainConfiguration → (new : Option Run) → Type 0
+BeginsRun first new = (state : RunState) × (new ≡ Some (paused state)) × (first ≡ Some (plain_configuration state))
 
 -- ---- before an edit
 

@@ -25,8 +25,8 @@ unreachable-requires c =
     (c.room_is_not_shown.ensures.nodes c.args.tree.now.items c.args.at.now.path.items) c.in-None.is c.requires.taken)
     c.in-Err.ensures.refused c.in_default.not-OutOfMemory
 
-pub unreachable-requires-in-None-2 : goal.unreachable-requires-in-None-2
-unreachable-requires-in-None-2 c =
+pub unreachable-requires-in-Ok-None : goal.unreachable-requires-in-Ok-None
+unreachable-requires-in-Ok-None c =
     phrase_there (roomless_tree c.args.tree.now) (plain_stop c.args.at.now)
     (subst (λ (part : Option ℕ). IsSome part) (sym c.in-Some.is) refl) c.requires.taken
-    (sym (ap (option_map plain_phrase) c.in-None-2.is) ∙ c.in_ok-phrase-in-Some.ensures.copy)
+    (sym (ap (option_map plain_phrase) c.in-Ok-None.field-0-is) ∙ c.in-Ok-None.ensures.copy)

@@ -8,11 +8,11 @@ prepare-requires-clause-before g c =
     subst (λ (l : PlainLayout). IsLayoutBefore l c.args.tree.now c.args.change.now) (sym c.prepare_code.ensures.same.layout)
     c.requires.layout_before
 
-pub returns-clause-layout : goal.returns-clause-layout
-returns-clause-layout g c = record { ready = c.in_ok-layout.ensures.ready; becomes = c.in_ok-layout.ensures.after }
+pub returns-in-Ok-prepare-clause-layout : goal.returns-in-Ok-prepare-clause-layout
+returns-in-Ok-prepare-clause-layout g c = record { ready = c.in-Ok-prepare.ensures.ready; becomes = c.in-Ok-prepare.ensures.after }
 
-pub returns-clause-same : goal.returns-clause-same
-returns-clause-same g c =
+pub returns-in-Ok-prepare-clause-same : goal.returns-in-Ok-prepare-clause-same
+returns-in-Ok-prepare-clause-same g c =
     let same = c.prepare_code.ensures.same in
     record {
       layout = c.prepare.ensures.same ∙ same.layout;
@@ -22,8 +22,8 @@ returns-clause-same g c =
       told = same.told;
     }
 
-pub returns-in_err-layout-clause-same : goal.returns-in_err-layout-clause-same
-returns-in_err-layout-clause-same g c =
+pub returns-in-Err-prepare-clause-same : goal.returns-in-Err-prepare-clause-same
+returns-in-Err-prepare-clause-same g c =
     let same = c.prepare_code.ensures.same in
     record {
       layout = c.prepare.ensures.same ∙ same.layout;

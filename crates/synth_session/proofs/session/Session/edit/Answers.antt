@@ -1,4 +1,4 @@
-use Rattle.std.proofs.Common.{ap, sym, subst, ◌∙◌}
+use Rattle.std.proofs.Common.{ap, refl, sym, subst, ◌∙◌}
 use Rattle.template_tree.specs.Positions.Stop.{plain_stop}
 use Rattle.template_tree.specs.Programs.PlainTree.{PlainTree, roomless_tree}
 use Rattle.edit_undo.specs.EarlierTree.{trees_before}
@@ -10,9 +10,10 @@ use Rattle.synth_session.specs.Private.EditedProgram.{noted_trees, program_befor
 use Rattle.synth_session.specs.Private.Faults.{CountsEdit, IsEditFault}
 use Rattle.synth_session.specs.SessionView.{plain_session}
 use Rattle.synth_session.proofs.AcceptedEdits.{acceptance_does, edited_is, session_accepted}
-use Rattle.synth_session.proofs.EditOutcomes.{edited_counted, edited_refused, refusal_does, seen_without_room}
+use Rattle.synth_session.proofs.EditOutcomes.{edited_counted, edited_refused, edited_wanted, ready_without_room, refusal_does, seen_without_room}
 use Rattle.synth_session.proofs.KeptRuns.{MayGoOnIfStands, kept_stood}
 use Rattle.synth_session.proofs.NotedEdits.{came_from, stood_noted}
+use Rattle.synth_session.proofs.WantedCounts.{want_free}
 use Rattle.synth_session.proofs.session.Session.edit.Goals as goal
 
 pub accept_edit-requires-clause-came : goal.accept_edit-requires-clause-came
@@ -37,6 +38,11 @@ accept_edit-requires-clause-run g c =
           (stood_noted c.agreement_lasts.ensures.back c.undone_trees_check_alike.ensures after kept.edits (plain_stop kept.stop) c.in-Ok-change.applied
           (accept_edit-requires-clause-came g c)) run.undos run.run c.in-Ok.ensures.kept may,
     )
+
+pub refuse-requires : goal.refuse-requires
+refuse-requires g c =
+    ready_without_room c.keep_for_run.new.self c.change.new.self c.change.ensures.agrees c.change.ensures.code c.in-Err-change.ensures.same
+    c.keep_for_run.ensures.ready
 
 -- the edit is made
 pub returns-in-Ok-change : goal.returns-in-Ok-change
@@ -80,4 +86,36 @@ returns-in_default g c =
           c.edit_refusal.result fault c.edit_refusal.ensures (edited_refused s edit fault refused c.in_default.not-OutOfMemory)
           (seen_without_room kept c.change.new.self c.in-Err-change.ensures.same ∙ same) c.keep_for_run.ensures.screens c.refuse.ensures;
       counts = edited_counted s edit counts;
+    }
+
+-- memory ran out
+pub returns-in-OutOfMemory : goal.returns-in-OutOfMemory
+returns-in-OutOfMemory g c =
+    let s = plain_session c.args.self.now in
+    let edit = plain_edit c.args.edit in
+    let kept = c.keep_for_run.new.self in
+    let same = c.keep_for_run.ensures.plain in
+    let counts : CountsEdit s.tree (edited s.tree s.stop edit) (g.W.Work.counts c.args.work.now) (g.W.Work.counts c.change.new.work) =
+    subst (λ (t : PlainSession). CountsEdit t.tree (edited t.tree t.stop edit) (g.W.Work.counts c.args.work.now) (g.W.Work.counts c.change.new.work))
+    same c.change.ensures.counts in
+    record {
+      does = record {
+        session = ready_without_room kept c.change.new.self c.change.ensures.agrees c.change.ensures.code c.in-Err-change.ensures.same
+            c.keep_for_run.ensures.ready;
+        screens = c.keep_for_run.ensures.screens;
+        met = (refl, seen_without_room kept c.change.new.self c.in-Err-change.ensures.same ∙ same);
+      };
+      counts = edited_wanted s edit counts;
+    }
+
+pub returns-in-Err : goal.returns-in-Err
+returns-in-Err g c =
+    let outcome = edited_by (plain_session c.args.self.now) (plain_edit c.args.edit) in
+    record {
+      does = record {
+        session = c.keep_for_run.ensures.ready;
+        screens = c.keep_for_run.ensures.screens;
+        met = (refl, c.keep_for_run.ensures.plain);
+      };
+      counts = want_free outcome.checks outcome.emits outcome.fetches;
     }

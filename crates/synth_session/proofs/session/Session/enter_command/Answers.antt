@@ -54,13 +54,13 @@ returns-in-Ok g c =
     let unasked : command_request s (plain_command c.in-Ok.command) ≡ Request.Nothing = search rules in
     record {
       does = by_reading s (Ok (plain_command c.in-Ok.command)) (c.in-Ok.ensures.command ∙ ap command_of c.requires.line)
-          (λ (takes : Bool) (asks : Request) (outcome : Reply → KeyOutcome). DoesByReply takes asks outcome c.args.self.now c.obey.new.self files files
-          (g.W.Work.counts c.args.work.now) (g.W.Work.counts c.obey.new.work) c.obey.result)
+          (λ (takes : Bool) (asks : Request) (outcome : Reply → KeyOutcome). DoesByReply takes asks outcome c.args.self.now c.obey-answer.new.self files files
+          (g.W.Work.counts c.args.work.now) (g.W.Work.counts c.obey-answer.new.work) c.obey-answer.result)
           (record {
             reply = Reply.NotAsked;
-            files = subst (λ (asks : Request). FilesDo asks Reply.NotAsked files files c.obey.result) (sym unasked)
-                (nothing_files Reply.NotAsked files c.obey.result refl);
-            does = c.obey.ensures.does;
-            counts = c.obey.ensures.counts;
+            files = subst (λ (asks : Request). FilesDo asks Reply.NotAsked files files c.obey-answer.result) (sym unasked)
+                (nothing_files Reply.NotAsked files c.obey-answer.result refl);
+            does = c.obey-answer.ensures.does;
+            counts = c.obey-answer.ensures.counts;
           });
     }

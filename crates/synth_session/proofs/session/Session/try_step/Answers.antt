@@ -16,40 +16,40 @@ try_step-requires-clause-short g c =
     let short = c.as_slice.ensures.short in
     omega (arith, short)
 
-pub returns-in_err-try_step-clause-counts : goal.returns-in_err-try_step-clause-counts
+pub returns-in_default-clause-counts : goal.returns-in_default-clause-counts
 unfolding tried
-returns-in_err-try_step-clause-counts g c =
+returns-in_default-clause-counts g c =
     let old = c.args.self.now in
     told_fetches (told_code old.program.dependents.code.items) old.input c.as_slice.result.now c.as_slice.ensures.bytes (plain_session old) old.run.undos old.run.run
-    (λ (n : ℕ). FetchesAtMost n (g.W.Work.counts c.args.work.now) (g.W.Work.counts c.try_step.new.work)) c.requires.running.stands c.in_err-try_step.ensures.counts
+    (λ (n : ℕ). FetchesAtMost n (g.W.Work.counts c.args.work.now) (g.W.Work.counts c.try_step.new.work)) c.requires.running.stands c.in_default.ensures.counts
 
 pub returns-in-None-clause-counted : goal.returns-in-None-clause-counted
 unfolding tried
 returns-in-None-clause-counted g c =
     let old = c.args.self.now in
     told_fetches (told_code old.program.dependents.code.items) old.input c.as_slice.result.now c.as_slice.ensures.bytes (plain_session old) old.run.undos old.run.run
-    (λ (n : ℕ). FetchesBy n (g.W.Work.counts c.args.work.now) (g.W.Work.counts c.try_step.new.work)) c.requires.running.stands c.in_ok-try_step.ensures.counted
+    (λ (n : ℕ). FetchesBy n (g.W.Work.counts c.args.work.now) (g.W.Work.counts c.try_step.new.work)) c.requires.running.stands c.in-Ok.ensures.counted
 
 pub returns-in-None-clause-counts : goal.returns-in-None-clause-counts
 unfolding tried
 returns-in-None-clause-counts g c =
     let old = c.args.self.now in
     told_fetches (told_code old.program.dependents.code.items) old.input c.as_slice.result.now c.as_slice.ensures.bytes (plain_session old) old.run.undos old.run.run
-    (λ (n : ℕ). FetchesAtMost n (g.W.Work.counts c.args.work.now) (g.W.Work.counts c.try_step.new.work)) c.requires.running.stands c.in_ok-try_step.ensures.counts
+    (λ (n : ℕ). FetchesAtMost n (g.W.Work.counts c.args.work.now) (g.W.Work.counts c.try_step.new.work)) c.requires.running.stands c.in-Ok.ensures.counts
 
 pub returns-in-Some-clause-counted : goal.returns-in-Some-clause-counted
 unfolding tried
 returns-in-Some-clause-counted g c =
     let old = c.args.self.now in
     told_fetches (told_code old.program.dependents.code.items) old.input c.as_slice.result.now c.as_slice.ensures.bytes (plain_session old) old.run.undos old.run.run
-    (λ (n : ℕ). FetchesBy n (g.W.Work.counts c.args.work.now) (g.W.Work.counts c.try_step.new.work)) c.requires.running.stands c.in_ok-try_step.ensures.counted
+    (λ (n : ℕ). FetchesBy n (g.W.Work.counts c.args.work.now) (g.W.Work.counts c.try_step.new.work)) c.requires.running.stands c.in-Ok.ensures.counted
 
 pub returns-in-Some-clause-counts : goal.returns-in-Some-clause-counts
 unfolding tried
 returns-in-Some-clause-counts g c =
     let old = c.args.self.now in
     told_fetches (told_code old.program.dependents.code.items) old.input c.as_slice.result.now c.as_slice.ensures.bytes (plain_session old) old.run.undos old.run.run
-    (λ (n : ℕ). FetchesAtMost n (g.W.Work.counts c.args.work.now) (g.W.Work.counts c.try_step.new.work)) c.requires.running.stands c.in_ok-try_step.ensures.counts
+    (λ (n : ℕ). FetchesAtMost n (g.W.Work.counts c.args.work.now) (g.W.Work.counts c.try_step.new.work)) c.requires.running.stands c.in-Ok.ensures.counts
 
 pub returns-in-None-clause-tried : goal.returns-in-None-clause-tried
 unfolding tried
@@ -58,7 +58,7 @@ returns-in-None-clause-tried g c =
     let new = c.try_step.new.self in
     tried_made (own_steps old) (plain_session old) old.run.undos new.undos old.run.run new.run
     (tries_as (told_code old.program.dependents.code.items) old.input c.as_slice.result.now c.as_slice.ensures.bytes old.run.undos new.undos old.run.run new.run
-    c.in_ok-try_step.field-0 None c.in-None.is c.in_ok-try_step.ensures.tried)
+    c.in-Ok.tried None c.in-None.is c.in-Ok.ensures.tried)
 
 pub returns-in-None-clause-fits : goal.returns-in-None-clause-fits
 returns-in-None-clause-fits g c code fits =
@@ -67,7 +67,7 @@ returns-in-None-clause-fits g c code fits =
     made_goes_on c.steps_of_programs.ensures old.program.tree c.requires.session.agrees.tree (told_code old.program.dependents.code.items) code.tells old.input old.run.undos
     new.undos old.run.run new.run
     (tries_as (told_code old.program.dependents.code.items) old.input c.as_slice.result.now c.as_slice.ensures.bytes old.run.undos new.undos old.run.run new.run
-    c.in_ok-try_step.field-0 None c.in-None.is c.in_ok-try_step.ensures.tried) fits (plain_session old).earlier
+    c.in-Ok.tried None c.in-None.is c.in-Ok.ensures.tried) fits (plain_session old).earlier
 
 pub returns-in-None-clause-stays_fit : goal.returns-in-None-clause-stays_fit
 returns-in-None-clause-stays_fit g c code =
@@ -76,7 +76,7 @@ returns-in-None-clause-stays_fit g c code =
     made_fits c.steps_of_programs.ensures old.program.tree c.requires.session.agrees.tree (told_code old.program.dependents.code.items) code.tells old.input old.run.undos
     new.undos old.run.run new.run
     (tries_as (told_code old.program.dependents.code.items) old.input c.as_slice.result.now c.as_slice.ensures.bytes old.run.undos new.undos old.run.run new.run
-    c.in_ok-try_step.field-0 None c.in-None.is c.in_ok-try_step.ensures.tried)
+    c.in-Ok.tried None c.in-None.is c.in-Ok.ensures.tried)
 
 pub returns-in-Some-clause-tried : goal.returns-in-Some-clause-tried
 unfolding tried
@@ -85,7 +85,7 @@ returns-in-Some-clause-tried g c =
     let new = c.try_step.new.self in
     tried_rests (own_steps old) (plain_session old) old.run.undos new.undos old.run.run new.run c.in-Some.reason
     (tries_as (told_code old.program.dependents.code.items) old.input c.as_slice.result.now c.as_slice.ensures.bytes old.run.undos new.undos old.run.run new.run
-    c.in_ok-try_step.field-0 (Some c.in-Some.reason) c.in-Some.is c.in_ok-try_step.ensures.tried)
+    c.in-Ok.tried (Some c.in-Some.reason) c.in-Some.is c.in-Ok.ensures.tried)
 
 pub returns-in-Some-clause-fits : goal.returns-in-Some-clause-fits
 returns-in-Some-clause-fits g c code fits =
@@ -94,4 +94,4 @@ returns-in-Some-clause-fits g c code fits =
     held_still old.run.undos new.undos c.in-Some.reason (HeldGoesOn (roomless_tree old.program.tree) (plain_session old).earlier)
     (λ x. result_of (Exec (told_code old.program.dependents.code.items) old.input x)) old.run.run new.run
     (tries_as (told_code old.program.dependents.code.items) old.input c.as_slice.result.now c.as_slice.ensures.bytes old.run.undos new.undos old.run.run new.run
-    c.in_ok-try_step.field-0 (Some c.in-Some.reason) c.in-Some.is c.in_ok-try_step.ensures.tried)
+    c.in-Ok.tried (Some c.in-Some.reason) c.in-Some.is c.in-Ok.ensures.tried)
