@@ -66,6 +66,13 @@ other_key byte =
 key_shown : (byte : ℕ) → IsShown byte → key_of byte ≡ Char byte
 key_shown byte is = ap (λ (b : Bool). if b then Char byte else other_key byte) is
 
+-- the keys of a printable text, byte by byte
+keys_shown : (text : List ℕ) → AreShown text → map key_of text ≡ text_keys text
+keys_shown [] all = refl
+keys_shown (byte ∷ text) all =
+    ap (λ (k : Key). k ∷ map key_of text) (key_shown byte all.0)
+    ∙ ap (λ (l : List Key). Char byte ∷ l) (keys_shown text all.1)
+
 not_escape : (byte : ℕ) → IsShown byte → eqb byte 27 ≡ false
 not_escape byte is = grind (arith, nat_tests, is)
 
@@ -98,16 +105,19 @@ shown_statement n fits =
     shown_both (codes "x = MOD(x * 3 + ") (decimal n ++ codes ", 1000)") (shown_text (codes "x = MOD(x * 3 + ") refl)
     (shown_both (decimal n) (codes ", 1000)") (shown_number n fits) (shown_text (codes ", 1000)") refl))
 
--- what the maker presses for a statement, in four parts
-pub statement_keys : (n : ℕ)
-    → line_keys (codes ".after") ++ (text_keys (codes "x = MOD(x * 3 + ")
-    ++ (text_keys (decimal n) ++ line_keys (codes ", 1000)"))) ≡ one_more_keys n
-statement_keys n =
+-- what is pressed for a statement, in three parts, of which the first has the line before it too
+pub statement_keys : (n : ℕ) → n < 2 ^ 64
+    → (line_keys (codes ".after") ++ text_keys (codes "x = MOD(x * 3 + "))
+    ++ (map key_of (decimal n) ++ line_keys (codes ", 1000)")) ≡ one_more_keys n
+statement_keys n fits =
+    let hole = line_keys (codes ".after") in
     let lead = codes "x = MOD(x * 3 + " in
     let tail = codes ", 1000)" in
-    ap (λ (l : List Key). line_keys (codes ".after") ++ l)
+    append_assoc hole (text_keys lead) (map key_of (decimal n) ++ line_keys tail)
+    ∙ ap (λ (l : List Key). hole ++ l)
     (ap (λ (l : List Key). text_keys lead ++ l)
-    (sym (append_assoc (text_keys (decimal n)) (text_keys tail) (Enter ∷ []))
+    (ap (λ (l : List Key). l ++ line_keys tail) (keys_shown (decimal n) (shown_number n fits))
+    ∙ sym (append_assoc (text_keys (decimal n)) (text_keys tail) (Enter ∷ []))
     ∙ ap (λ (l : List Key). l ++ Enter ∷ []) (sym (map-append Char (decimal n) tail)))
     ∙ sym (append_assoc (text_keys lead) (text_keys (decimal n ++ tail)) (Enter ∷ []))
     ∙ ap (λ (l : List Key). l ++ Enter ∷ []) (sym (map-append Char lead (decimal n ++ tail))))
@@ -181,23 +191,23 @@ made_keys n fits =
 -- ---- a text byte by byte
 
 pub text_more : (text : List ℕ) (i : ℕ) → i < length text
-    → text_keys (take i text) ++ Char (get_or text i 0) ∷ [] ≡ text_keys (take (i + 1) text)
+    → map key_of (take i text) ++ key_of (get_or text i 0) ∷ [] ≡ map key_of (take (i + 1) text)
 text_more text i within =
-    sym (ap text_keys (take_more text i 0 within) ∙ map-append Char (take i text) (get_or text i 0 ∷ []))
+    sym (ap (map key_of) (take_more text i 0 within) ∙ map-append key_of (take i text) (get_or text i 0 ∷ []))
 
 both_parts : (text : List ℕ) (i : ℕ) → take i text ++ drop i text ≡ text
 both_parts text i = simp common_steps
 
 pub text_whole : (text : List ℕ) (i : ℕ) → i < length text
-    → (text_keys (take i text) ++ Char (get_or text i 0) ∷ []) ++ text_keys (drop (i + 1) text) ≡ text_keys text
+    → (map key_of (take i text) ++ key_of (get_or text i 0) ∷ []) ++ map key_of (drop (i + 1) text) ≡ map key_of text
 text_whole text i within =
-    ap (λ (l : List Key). l ++ text_keys (drop (i + 1) text)) (text_more text i within)
-    ∙ sym (map-append Char (take (i + 1) text) (drop (i + 1) text))
-    ∙ ap text_keys (both_parts text (i + 1))
+    ap (λ (l : List Key). l ++ map key_of (drop (i + 1) text)) (text_more text i within)
+    ∙ sym (map-append key_of (take (i + 1) text) (drop (i + 1) text))
+    ∙ ap (map key_of) (both_parts text (i + 1))
 
 -- all bytes of it
-pub text_all : (text : List ℕ) (i : ℕ) → i ≡ length text → text_keys (take i text) ≡ text_keys text
-text_all text i all = ap text_keys (grind (arith, common_steps, all))
+pub text_all : (text : List ℕ) (i : ℕ) → i ≡ length text → map key_of (take i text) ≡ map key_of text
+text_all text i all = ap (map key_of) (grind (arith, common_steps, all))
 
 -- ---- statements one by one
 

@@ -152,7 +152,6 @@ fn next_byte(held: Held, byte: u8) -> Fed
 }
 
 /// Takes a byte where the reader holds nothing back.
-#[tactic(auto, unfolding(crate::specs::Keys::keys, crate::specs::Keys::completed), using(crate::proofs::KeyLists::keys_first, crate::proofs::KeyLists::completed_first),)]
 fn first_byte(byte: u8) -> Fed
     ensures keys { Feeds [] byte result.keys (held_bytes result.held) }
     ensures one { result.keys.second ≡ None }
@@ -176,7 +175,7 @@ fn byte_after_escape(byte: u8) -> Fed
 }
 
 /// The key of a byte by itself.
-fn key_of(byte: u8) -> Key
+pub fn key_of(byte: u8) -> Key
     ensures { result ≡ key_of byte }
 {
     match byte {

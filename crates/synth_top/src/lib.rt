@@ -13,6 +13,7 @@ mod editor;
 mod key;
 mod loading;
 mod maker;
+mod making;
 mod number;
 mod options;
 mod status;
@@ -20,7 +21,7 @@ mod summary;
 mod task;
 mod words;
 
-use editor::Editor;
+use editor::{Editor, run};
 pub use key::{KeyReader, Keys};
 use loading::load_first;
 use maker::make;
@@ -154,8 +155,8 @@ fn edit<S: Source, K: Sink, F: Files, W: Work>(
         Ok(editor) => editor,
         Err(OutOfMemory) => return Status::NoMemory,
     };
-    let status = editor.run(alloc, options, keys, screen, files, work);
+    let status = run(alloc, options, &mut editor, keys, screen, files, work);
     editor.rescue(status, files);
-    drop(editor);
+    editor.session.close();
     status
 }

@@ -52,7 +52,10 @@ impl FileLoad<Vec<u8>> {
     {
         match self {
             FileLoad::Loaded(bytes) => bytes,
-            _ => Vec::new(alloc),
+            load => {
+                drop(load);
+                Vec::new(alloc)
+            }
         }
     }
 }
@@ -91,9 +94,16 @@ pub fn load_first<F: Files>(
     ensures within { IfOk result (λ loads. IsInputIfLoaded loads.input) }
     ensures wanted { IfErr result (λ _. LoadsNothing (F.told files.old) (F.told files.new)) }
 {
-    let program = load_program(alloc, options.program, files)?;
-    let input = load_program_input(alloc, options.input, files)?;
-    Ok(FirstLoads { program, input })
+    let Ok(program) = load_program(alloc, options.program, files) else {
+        return Err(OutOfMemory);
+    };
+    match load_program_input(alloc, options.input, files) {
+        Ok(input) => Ok(FirstLoads { program, input }),
+        Err(OutOfMemory) => {
+            drop(program);
+            Err(OutOfMemory)
+        }
+    }
 }
 
 /// Loads the program before the first screen, from the file of the name, if one is named.

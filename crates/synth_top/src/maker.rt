@@ -1,6 +1,6 @@
-//! The maker: it presses the keys that make a program of so many statements and run it, without a screen.
+//! The maker: the keys that make a program of so many statements and run it are pressed on its session, without a screen.
 
-ghost use Rattle.std.specs.Prelude.{◌≡◌, ◌∷◌, [], decimal, IfOk, OnErr};
+ghost use Rattle.std.specs.Prelude.{◌≡◌, IfOk, OnErr};
 ghost use Rattle.synth_outside.specs.Cause.{RisesWith};
 ghost use Rattle.synth_session.specs.CountedKey.{CountsProgram};
 ghost use Rattle.synth_session.specs.CheckedPhrases.{phrase_count};
@@ -9,16 +9,14 @@ ghost use Rattle.synth_session.specs.SessionView.{plain_session};
 ghost use Rattle.synth_session.specs.Tick.{IsRunning, RunFits};
 ghost use Rattle.template_tree.specs.Programs.NewTree.{new_tree};
 ghost use Rattle.synth_top.specs.Making.{MadeAs, PartMade, made_from};
-ghost use Rattle.synth_top.specs.Private.MakingKeys.{CanPress, IsMade, MakesKeys, state_of};
-ghost use Rattle.synth_top.specs.Private.MakingText.{all_keys, first_keys, last_keys, line_keys};
-ghost use Rattle.synth_top.specs.Private.MakingText.{one_more_keys, statements_keys, text_keys};
+ghost use Rattle.synth_top.specs.Private.MakingKeys.{CanPress, IsMade, state_of};
 ghost use Rattle.synth_top.specs.Private.MakingTicks.{MakesTicks};
 ghost use Rattle.synth_top.specs.Private.WrittenSummary.{written_as};
 
+use crate::making::{Making, press_all};
 use crate::options::{USUAL_COLS, USUAL_ROWS};
 use crate::status::Status;
 use crate::summary::write_summary;
-use itoa::Buffer;
 use plcs_base::{OutOfMemory, Work};
 use std::alloc::Global;
 use synth_outside::{MemFiles, Sink, SinkFault};
@@ -36,7 +34,7 @@ pub fn make<K: Sink, W: Work>(alloc: Global, number: u32, screen: &mut K, work: 
         return Status::NoMemory;
     };
     let written = write_summary(&maker.session, screen);
-    drop(maker);
+    maker.close();
     written_as(written)
 }
 
@@ -50,10 +48,10 @@ fn make_program<W: Work>(alloc: Global, number: u32, work: &mut W) -> Result<Mak
     let Ok(mut maker) = Maker::open(alloc, work) else {
         return Err(OutOfMemory);
     };
-    match maker.press_all(alloc, number, work) {
+    match press_all(alloc, number, &mut maker, work) {
         Ok(()) => Ok(maker),
         Err(OutOfMemory) => {
-            drop(maker);
+            maker.close();
             Err(OutOfMemory)
         }
     }
@@ -82,130 +80,11 @@ impl<W: Work> Maker<W> {
         })
     }
 
-    /// Presses all keys that make and run a program of so many statements.
-    fn press_all(&mut self, alloc: Global, number: u32, work: &mut W) -> Result<(), OutOfMemory>
-        requires { CanPress self.old }
-        ensures made { MakesKeys (all_keys number) (state_of self.old) (state_of self.new)
-            (W.counts work.old) (W.counts work.new) result }
-        ensures ready { CanPress self.new }
-    {
-        self.press_first(alloc, work)?;
-        self.press_statements(alloc, number, work)?;
-        self.press_last(alloc, work)
-    }
-
-    /// Presses the keys of a making before those for its statements: they declare the variable, and set it to 0.
-    fn press_first(&mut self, alloc: Global, work: &mut W) -> Result<(), OutOfMemory>
-        requires { CanPress self.old }
-        ensures made { MakesKeys first_keys (state_of self.old) (state_of self.new)
-            (W.counts work.old) (W.counts work.new) result }
-        ensures ready { CanPress self.new }
-    {
-        self.press(alloc, Key::Up, work)?;
-        self.press_line(alloc, b".fixed", work)?;
-        self.press_line(alloc, b"x", work)?;
-        self.press(alloc, Key::Down, work)?;
-        self.press_line(alloc, b"x = 0", work)
-    }
-
-    /// Presses the keys of a making for its statements, one statement after the other.
-    fn press_statements(
-        &mut self,
-        alloc: Global,
-        number: u32,
-        work: &mut W,
-    ) -> Result<(), OutOfMemory>
-        requires { CanPress self.old }
-        ensures made { MakesKeys (statements_keys number) (state_of self.old) (state_of self.new)
-            (W.counts work.old) (W.counts work.new) result }
-        ensures ready { CanPress self.new }
-    {
-        for before in 0..number {
-            self.press_statement(alloc, before + 1, work)?;
-        }
-        Ok(())
-    }
-
-    /// Presses the keys of a making for its statement of this number, after the others.
-    fn press_statement(
-        &mut self,
-        alloc: Global,
-        number: u32,
-        work: &mut W,
-    ) -> Result<(), OutOfMemory>
-        requires { CanPress self.old }
-        ensures made { MakesKeys (one_more_keys number) (state_of self.old) (state_of self.new)
-            (W.counts work.old) (W.counts work.new) result }
-        ensures ready { CanPress self.new }
-    {
-        self.press_line(alloc, b".after", work)?;
-        self.press_text(alloc, b"x = MOD(x * 3 + ", work)?;
-        self.press_number(alloc, number, work)?;
-        self.press_line(alloc, b", 1000)", work)
-    }
-
-    /// Presses the keys of a number of a making, in decimal digits.
-    fn press_number(&mut self, alloc: Global, number: u32, work: &mut W) -> Result<(), OutOfMemory>
-        requires { CanPress self.old }
-        ensures made { MakesKeys (text_keys (decimal number)) (state_of self.old) (state_of self.new)
-            (W.counts work.old) (W.counts work.new) result }
-        ensures ready { CanPress self.new }
-    {
-        self.press_text(alloc, Buffer::new().format(number).as_bytes(), work)
-    }
-
-    /// Presses the keys of a making after those for its statements: they put the variable out, and run the program.
-    fn press_last(&mut self, alloc: Global, work: &mut W) -> Result<(), OutOfMemory>
-        requires { CanPress self.old }
-        ensures made { MakesKeys last_keys (state_of self.old) (state_of self.new)
-            (W.counts work.old) (W.counts work.new) result }
-        ensures ready { CanPress self.new }
-    {
-        self.press_line(alloc, b".after", work)?;
-        self.press_line(alloc, b".puts", work)?;
-        self.press_line(alloc, b"x", work)?;
-        self.press_line(alloc, b".run", work)
-    }
-
-    /// Presses the keys of a line of a making: its text, and Enter.
-    fn press_line(&mut self, alloc: Global, text: &[u8], work: &mut W) -> Result<(), OutOfMemory>
-        requires { CanPress self.old }
-        ensures made { MakesKeys (line_keys text.now) (state_of self.old) (state_of self.new)
-            (W.counts work.old) (W.counts work.new) result }
-        ensures ready { CanPress self.new }
-    {
-        self.press_text(alloc, text, work)?;
-        self.press(alloc, Key::Enter, work)
-    }
-
-    /// Presses the keys of a text of a making, a key a byte.
-    fn press_text(&mut self, alloc: Global, text: &[u8], work: &mut W) -> Result<(), OutOfMemory>
-        requires { CanPress self.old }
-        ensures made { MakesKeys (text_keys text.now) (state_of self.old) (state_of self.new)
-            (W.counts work.old) (W.counts work.new) result }
-        ensures ready { CanPress self.new }
-    {
-        for byte in text {
-            self.press(alloc, Key::Char(*byte), work)?;
-        }
-        Ok(())
-    }
-
-    /// Presses a key of a making, and makes the steps in which the program's run goes on, if it does.
-    fn press(&mut self, alloc: Global, key: Key, work: &mut W) -> Result<(), OutOfMemory>
-        requires { CanPress self.old }
-        ensures made { MakesKeys (key ∷ []) (state_of self.old) (state_of self.new)
-            (W.counts work.old) (W.counts work.new) result }
-        ensures ready { CanPress self.new }
-    {
-        running_keys_have_runs();
-        self.session.running_keys_fit();
-        let answer = self.session.press(alloc, key, &mut self.files, work)?;
-        match answer {
-            Answer::Running => self.make_steps(alloc, work),
-            // None of the keys is a quit; one would end no making.
-            Answer::Done | Answer::Refused(_) | Answer::Quit => Ok(()),
-        }
+    /// Closes the maker's session, and lets go of its files.
+    fn close(self) {
+        let Maker { session, files } = self;
+        session.close();
+        drop(files);
     }
 
     /// Makes the steps of a key of a making in which the program's run goes on, tick by tick.
@@ -225,6 +104,23 @@ impl<W: Work> Maker<W> {
             if let Tick::Over = tick {
                 return Ok(());
             }
+        }
+    }
+}
+
+impl<W: Work> Making<W> for Maker<W> {
+    ghost state = { λ maker. state_of maker };
+
+    ghost can_press = { λ maker. CanPress maker };
+
+    fn press(&mut self, alloc: Global, key: Key, work: &mut W) -> Result<(), OutOfMemory> {
+        running_keys_have_runs();
+        self.session.running_keys_fit();
+        let answer = self.session.press(alloc, key, &mut self.files, work)?;
+        match answer {
+            Answer::Running => self.make_steps(alloc, work),
+            // None of the keys is a quit; one would end no making.
+            Answer::Done | Answer::Refused(_) | Answer::Quit => Ok(()),
         }
     }
 }

@@ -1,6 +1,6 @@
 //! The summary of a program that was made and run.
 
-ghost use Rattle.std.specs.Prelude.{◌≡◌, decimal};
+ghost use Rattle.std.specs.Prelude.{◌≡◌, ◌++◌, codes, decimal};
 ghost use Rattle.screen_window.specs.Writes.{Writes};
 ghost use Rattle.template_tree.specs.Listings.Listing.{Listing};
 ghost use Rattle.synth_session.specs.SessionView.{IsSession, plain_session};
@@ -28,11 +28,34 @@ pub fn write_summary<W: Work, K: Sink>(
         (K.taken screen.old) (K.taken screen.new)
         (K.faults screen.old) (K.faults screen.new) (K.wants screen.old) (K.wants screen.new) }
 {
+    write_lines(
+        session.slots(),
+        lines_of(session),
+        session.steps(),
+        session.output(),
+        screen,
+    )
+}
+
+/// Writes the lines of a summary that tells these numbers and this output.
+fn write_lines<K: Sink>(
+    slots: u32,
+    lines: u32,
+    steps: u32,
+    output: &[u8],
+    screen: &mut K,
+) -> Result<(), SinkFault>
+    ensures { Writes
+        (summary_line (codes "slots") (decimal slots) ++ (summary_line (codes "lines") (decimal lines)
+        ++ (summary_line (codes "steps") (decimal steps) ++ summary_line (codes "output") output.now))) result
+        (K.taken screen.old) (K.taken screen.new)
+        (K.faults screen.old) (K.faults screen.new) (K.wants screen.old) (K.wants screen.new) }
+{
     writes_in_turn();
-    write_number(b"slots", session.slots(), screen)?;
-    write_number(b"lines", lines_of(session), screen)?;
-    write_number(b"steps", session.steps(), screen)?;
-    write_line(b"output", session.output(), screen)
+    write_number(b"slots", slots, screen)?;
+    write_number(b"lines", lines, screen)?;
+    write_number(b"steps", steps, screen)?;
+    write_line(b"output", output, screen)
 }
 
 /// Writes a line of a summary that tells a number.

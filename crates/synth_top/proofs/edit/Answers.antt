@@ -33,7 +33,7 @@ returns-clause-ended g c =
     inr (ran c.run-status.result options loads before now files loaded (g.F.Files.told c.run-status.new.files) (g.F.Files.told c.rescue.new.files)
     (g.W.Work.counts c.args.work.now) (g.W.Work.counts c.open.new.work) (g.W.Work.counts c.run-status.new.work) first
     (g.S.Source.leads_to c.args.keys.now c.run-status.new.keys) (g.S.Source.breaks_at c.args.keys.now c.run-status.new.keys)
-    (plain_session c.run-status.new.self.session) c.in-Ok.ensures.loads c.in-Ok-open.ensures.counts
+    (plain_session c.run-status.new.editing.session) c.in-Ok.ensures.loads c.in-Ok-open.ensures.counts
     (opened_first options loads files.stored loaded.stored opened c.in-Ok-open.ensures.opened.session c.in-Ok.ensures.loads.read.stored)
     c.run-status.ensures.runs c.rescue.ensures)
 

@@ -1,5 +1,5 @@
 -- What an editor is before its first screen, what a run does from that screen on, and what is then saved.
-use Rattle.std.specs.Prelude.{◌≡◌, ◌≤◌, []}
+use Rattle.std.specs.Prelude.{◌≡◌, ◌≤◌}
 use Rattle.plcs_base.specs.Count.{RoseBy}
 use Rattle.synth_outside.specs.Files.{PlainFiles}
 use Rattle.screen_window.specs.PlainGrid.{blank_grid}
@@ -20,7 +20,6 @@ pub record IsUnshown {W : Type 0} (e : Editor W) : Type 0 where
   pub ready : IsReady e
   pub painted : shown_grid e.session
       ≡ blank_grid (plain_session e.session).size.rows (plain_session e.session).size.cols
-  pub reader : e.reader ≡ []
 
 -- an editor whose first screen isn't shown yet, as a run from that screen on begins: it has the session of these
 -- options and loads

@@ -12,7 +12,7 @@ use Rattle.synth_session.specs.KeyRequest.{request}
 use Rattle.synth_session.specs.MemoryTaken.{key_takes_memory}
 use Rattle.synth_session.specs.PlainSession.{PlainSession}
 use Rattle.synth_session.specs.Press.{press}
-use Rattle.synth_session.specs.SessionView.{CountsWanted, IsReadyForKey, plain_session, shown_grid}
+use Rattle.synth_session.specs.SessionView.{CountsWanted, IsReadyForKey}
 use Rattle.synth_session.specs.Tick.{CallsNext}
 use Rattle.synth_top.specs.declared.editor.Editor.{Editor}
 use Rattle.synth_top.specs.declared.editor.Going.{Going}
@@ -59,12 +59,12 @@ pub record Moment : Type 0 where
   pub files : PlainFiles
   pub counts : PlainCounts
 
--- the moment before or after some keys are pressed at which a run has this editor, these bytes and wants of its sink,
--- these files and these counts
-abbrev pub moment_of : {W : Type 0} → Editor W → Option (List ℕ) → ℕ → PlainFiles → PlainCounts → Moment
-moment_of e taken wanted files counts = record {
-  session = plain_session e.session;
-  shown = shown_grid e.session;
+-- the moment before or after some keys are pressed at which a run has this session and this screen shown, these bytes
+-- and wants of its sink, these files and these counts
+abbrev pub moment_of : PlainSession → PlainGrid → Option (List ℕ) → ℕ → PlainFiles → PlainCounts → Moment
+moment_of session shown taken wanted files counts = record {
+  session = session;
+  shown = shown;
   taken = taken;
   wanted = wanted;
   files = files;
@@ -199,13 +199,12 @@ MayEnd (Over ReadFault) = ⊥
 MayEnd (Over BadWords) = ⊥
 MayEnd (Over KeyLimit) = ⊥
 
--- keys were pressed: what became of them, the count of the sink's faults, and the editor then
-pub record PressesKeys {W : Type 0} (going : Going) (keys : List Key) (before now : Moment)
-    (faults_before faults_now : ℕ) (e : Editor W) : Type 0 where
+-- keys were pressed: what became of them, and the count of the sink's faults
+pub record PressesKeys (going : Going) (keys : List Key) (before now : Moment) (faults_before faults_now : ℕ)
+    : Type 0 where
   pub ends : MayEnd going
   pub pressed : Pressed going keys before now
   pub cause : RisesWith (going ≡ Over WriteFault) faults_before faults_now
-  pub ready : IsReady e
 
 -- the status with which pressing keys ended the run, or else this one
 abbrev pub ended_as : Going → Status → Status

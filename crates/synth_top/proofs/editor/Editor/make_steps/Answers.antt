@@ -16,7 +16,6 @@ loop-tick-init g c = record {
   ready = c.requires.ready;
   running = c.requires.running;
   fits = c.requires.fits;
-  reader = refl;
   unfailed = refl;
 }
 
@@ -65,7 +64,6 @@ loop-tick-preserved g c =
       ready = c.show.ensures.ready;
       running = subst IsRunning (sym (c.show.ensures.session ∙ is_ticked)) (c.ticks_go_on.ensures.shown _ _ c.loop-tick.invariant.running again).running;
       fits = subst RunFits (sym c.show.ensures.session) (c.tick.ensures.stays_fit c.loop-tick.invariant.ready.code c.loop-tick.invariant.fits);
-      reader = c.show.ensures.reader ∙ c.loop-tick.invariant.reader;
       unfailed = (was_painted c.show.result _ _ _ _ _ _ _ _ _ c.in_default-going_after.ensures c.show.ensures.wrote c.show.ensures.shown).unfailed
           ∙ c.loop-tick.invariant.unfailed;
     }

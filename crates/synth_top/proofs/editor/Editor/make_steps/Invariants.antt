@@ -1,6 +1,6 @@
 use Rattle.std.proofs.Common.{◌≡◌}
 use Rattle.synth_outside.specs.Files.{PlainFiles}
-use Rattle.synth_session.specs.SessionView.{plain_session}
+use Rattle.synth_session.specs.SessionView.{plain_session, shown_grid}
 use Rattle.synth_session.specs.Tick.{IsRunning, RunFits, steps_left}
 use Rattle.synth_top.specs.Private.Pressing.{IsReady, moment_of}
 use Rattle.synth_top.proofs.TicksInOrder.{TicksSoFar}
@@ -14,11 +14,10 @@ decreases-loop-tick g l = steps_left (plain_session l.self.session)
 abbrev pub invariant-loop-tick : goal.invariant-loop-tick
 invariant-loop-tick g l = record {
   so_far : (files : PlainFiles) →
-      TicksSoFar (moment_of l.fn.self (g.K.Sink.taken l.fn.screen) (g.K.Sink.wants l.fn.screen) files (g.W.Work.counts l.fn.work))
-      (moment_of l.self (g.K.Sink.taken l.screen) (g.K.Sink.wants l.screen) files (g.W.Work.counts l.work));
+      TicksSoFar (moment_of (plain_session l.fn.self.session) (shown_grid l.fn.self.session) (g.K.Sink.taken l.fn.screen) (g.K.Sink.wants l.fn.screen) files (g.W.Work.counts l.fn.work))
+      (moment_of (plain_session l.self.session) (shown_grid l.self.session) (g.K.Sink.taken l.screen) (g.K.Sink.wants l.screen) files (g.W.Work.counts l.work));
   ready : IsReady l.self;
   running : IsRunning (plain_session l.self.session);
   fits : RunFits (plain_session l.self.session);
-  reader : l.self.reader ≡ l.fn.self.reader;
   unfailed : g.K.Sink.faults l.screen ≡ g.K.Sink.faults l.fn.screen;
 }

@@ -39,9 +39,9 @@ returns-clause-opened g c =
     let loads = plain_first_loads c.args.loads in
     let told : plain_session c.tell.new.self.session ≡ first_session (plain_options c.args.options.now) loads =
     c.tell.ensures.session
-    ∙ ap (λ (r : Option FileRefusal). refusal_told r (plain_session c.in_ok-session.session)) c.first_refusal-refusal.ensures
+    ∙ ap (λ (r : Option FileRefusal). refusal_told r (plain_session c.in-Ok.session)) c.first_refusal-refusal.ensures
     ∙ ap (λ (s : PlainSession). refusal_told (first_refusal loads) s)
-    (c.in_ok-session.ensures.opened
+    (c.in-Ok.ensures.opened
     ∙ ap (λ (t : Option PlainTree). opened_session size (option_map roomless_tree t) c.bytes-input.result.items) c.loaded.ensures
     ∙ ap (λ (t : Option PlainTree). opened_session size t c.bytes-input.result.items) (same_program c.args.loads.program)
     ∙ ap (λ (i : List ℕ). opened_session size (loaded_program loads.program) i) c.bytes-input.ensures) in
@@ -50,8 +50,7 @@ returns-clause-opened g c =
     record {
       unshown = record {
         ready = c.tell.ensures.ready;
-        painted = c.tell.ensures.shown ∙ c.in_ok-session.ensures.shown ∙ ap (λ (e : PlainScreenSize). blank_grid e.rows e.cols) (sym sized);
-        reader = c.tell.ensures.reader ∙ c.new.ensures;
+        painted = c.tell.ensures.shown ∙ c.in-Ok.ensures.shown ∙ ap (λ (e : PlainScreenSize). blank_grid e.rows e.cols) (sym sized);
       };
       session = told;
     }
@@ -61,10 +60,10 @@ pub returns-clause-counts : goal.returns-clause-counts
 returns-clause-counts g c =
     subst
     (λ (tree : Option PlainTree). CountsProgram (phrase_count (tree_at_first tree)) (code_length (tree_at_first tree)) (g.W.Work.counts c.args.work.now) (g.W.Work.counts c.open.new.work))
-    (ap (λ (tree : Option PlainTree). option_map roomless_tree tree) c.loaded.ensures ∙ same_program c.args.loads.program) c.in_ok-session.ensures.counts
+    (ap (λ (tree : Option PlainTree). option_map roomless_tree tree) c.loaded.ensures ∙ same_program c.args.loads.program) c.in-Ok.ensures.counts
 
-pub returns-in_err-session-clause-counts : goal.returns-in_err-session-clause-counts
-returns-in_err-session-clause-counts g c =
+pub returns-in_default-clause-counts : goal.returns-in_default-clause-counts
+returns-in_default-clause-counts g c =
     subst
     (λ (tree : Option PlainTree). CountsProgram (phrase_count (tree_at_first tree)) (code_length (tree_at_first tree)) (g.W.Work.counts c.args.work.now) (g.W.Work.counts c.open.new.work))
-    (ap (λ (tree : Option PlainTree). option_map roomless_tree tree) c.loaded.ensures ∙ same_program c.args.loads.program) c.in_err-session.ensures.counts
+    (ap (λ (tree : Option PlainTree). option_map roomless_tree tree) c.loaded.ensures ∙ same_program c.args.loads.program) c.in_default.ensures.counts

@@ -1,11 +1,11 @@
 -- Each turn of the loop presses the keys for one statement more, after those for the ones before it; where memory ran
 -- out in one, its keys are the first of those that are left.
-use Rattle.std.proofs.Common.{◌≡◌, ◌+◌, ◌++◌, ap, refl, sym, arith}
+use Rattle.std.proofs.Common.{◌≡◌, ◌+◌, ap, refl, sym, arith}
 use Rattle.std.proofs.lemmas.Result.{err_from_is_err_and}
 use Rattle.synth_top.specs.Private.MakingText.{one_more_keys, statements_keys}
 use Rattle.synth_top.proofs.MadeKeys.{keys_as, none_made, then_made, then_unmade, unmade_as, unmade_keys_as, unmade_to}
 use Rattle.synth_top.proofs.MadeTexts.{no_statements, statements_front, statements_more}
-use Rattle.synth_top.proofs.maker.Maker.press_statements.Goals as goal
+use Rattle.synth_top.proofs.making.press_statements.Goals as goal
 
 -- none was pressed
 pub loop-before-init : goal.loop-before-init

@@ -5,7 +5,7 @@ use Rattle.screen_window.specs.PlainGrid.{PlainGrid, blank_grid}
 use Rattle.screen_window.specs.Writes.{Writes}
 use Rattle.synth_session.specs.SessionView.{next_grid, plain_session}
 use Rattle.synth_top.specs.WholeRun.{clear_piece, opening}
-use Rattle.synth_top.proofs.editor.Editor.start.Goals as goal
+use Rattle.synth_top.proofs.editor.EditorEditing.start.Goals as goal
 
 -- the first piece was cut short
 pub returns-in_err-write_piece-clause-wrote : goal.returns-in_err-write_piece-clause-wrote

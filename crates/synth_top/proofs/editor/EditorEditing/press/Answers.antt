@@ -6,7 +6,7 @@ use Rattle.synth_session.specs.PlainScreens.{PlainScreens}
 use Rattle.synth_session.specs.Tick.{RunFits}
 use Rattle.synth_top.specs.Turn.{makes_steps}
 use Rattle.synth_top.proofs.OneKey.{one_painted, one_quit, one_ticked, one_wanted, painted_caused, painted_may_end, still_answer, ticks_may_end}
-use Rattle.synth_top.proofs.editor.Editor.press.Goals as goal
+use Rattle.synth_top.proofs.editor.EditorEditing.press.Goals as goal
 
 -- the key wanted memory
 pub returns-in_default-clause-presses : goal.returns-in_default-clause-presses
@@ -18,8 +18,10 @@ returns-in_default-clause-presses g c =
           (one_wanted c.args.key _ _ c.running_keys_have_runs.ensures.still pressed.does.met.0 pressed.files pressed.does.met.1
           (record { shown = ap (λ (z : PlainScreens). z.shown) pressed.does.screens; taken = refl; wanted = refl }) pressed.counts));
       cause = record { later = omega arith; rose = λ e. absurd (cc); same = λ other. refl; last = λ e. refl };
-      ready = pressed.does.session;
     }
+
+pub returns-in_default-clause-ready : goal.returns-in_default-clause-ready
+returns-in_default-clause-ready g c = c.in_default.ensures.pressed.does.session
 
 -- the key ended the session
 pub returns-in-Quit-clause-presses : goal.returns-in-Quit-clause-presses
@@ -32,8 +34,10 @@ returns-in-Quit-clause-presses g c =
           (record { shown = ap (λ (z : PlainScreens). z.shown) pressed.does.screens; taken = refl; wanted = refl })
           c.running_keys_have_runs.ensures.still c.in-Quit.is pressed.counts;
       cause = record { later = omega arith; rose = λ e. absurd (cc); same = λ other. refl; last = λ e. refl };
-      ready = pressed.does.session;
     }
+
+pub returns-in-Quit-clause-ready : goal.returns-in-Quit-clause-ready
+returns-in-Quit-clause-ready g c = c.in-Ok.ensures.pressed.does.session
 
 -- a run of the program goes on in it, which fits the program
 pub make_steps-requires-clause-fits : goal.make_steps-requires-clause-fits
@@ -54,7 +58,6 @@ returns-in-Running-clause-presses g c =
           (record { shown = ap (λ (z : PlainScreens). z.shown) pressed.does.screens; taken = refl; wanted = refl })
           (ap makes_steps c.in-Running.is) pressed.counts _ c.make_steps.result made;
       cause = c.make_steps.ensures.cause;
-      ready = c.make_steps.ensures.ready;
     }
 
 -- no run went on in it, and its screen was written, or cut short
@@ -71,5 +74,4 @@ returns-in-Done-clause-presses g c =
           (record { shown = ap (λ (z : PlainScreens). z.shown) pressed.does.screens; taken = refl; wanted = refl })
           still.0 still.1 _ c.show.ensures.session refl pressed.counts c.show.ensures.counts _ _ c.show.result wrote c.show.ensures.shown;
       cause = painted_caused c.show.result _ _ wrote.cause;
-      ready = c.show.ensures.ready;
     })

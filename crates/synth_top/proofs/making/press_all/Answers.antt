@@ -2,7 +2,7 @@ use Rattle.std.proofs.Common.{◌++◌}
 use Rattle.std.proofs.lemmas.Result.{err_from_is_err_and}
 use Rattle.synth_top.specs.Private.MakingText.{first_keys, last_keys, statements_keys}
 use Rattle.synth_top.proofs.MadeKeys.{made_then, then_unmade, unmade_as, unmade_before}
-use Rattle.synth_top.proofs.maker.Maker.press_all.Goals as goal
+use Rattle.synth_top.proofs.making.press_all.Goals as goal
 
 -- the first keys, those for the statements, and the last ones
 pub returns-clause-made : goal.returns-clause-made
@@ -10,9 +10,9 @@ returns-clause-made g c =
     let first = first_keys in
     let statements = statements_keys c.args.number in
     let last = last_keys in
-    made_then first (statements ++ last) _ _ _ _ c.in_ok-press_first.ensures.made _ _ c.press_last.result
-    (made_then statements last _ _ _ _ c.in_ok-press_statements.ensures.made _ _ c.press_last.result
-    c.press_last.ensures.made)
+    made_then first (statements ++ last) _ _ _ _ c.in_ok-press_first.ensures.made _ _ c.press_text.result
+    (made_then statements last _ _ _ _ c.in_ok-press_statements.ensures.made _ _ c.press_text.result
+    c.press_text.ensures.made)
 
 pub returns-in_err-press_first-clause-made : goal.returns-in_err-press_first-clause-made
 returns-in_err-press_first-clause-made g c =

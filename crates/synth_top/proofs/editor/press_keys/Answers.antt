@@ -1,5 +1,5 @@
 use Rattle.synth_top.proofs.KeysInOrder.{caused_after, pressed_before, pressed_then}
-use Rattle.synth_top.proofs.editor.Editor.press_keys.Goals as goal
+use Rattle.synth_top.proofs.editor.press_keys.Goals as goal
 
 -- the second key comes after the first
 pub returns-clause-presses : goal.returns-clause-presses
@@ -10,7 +10,6 @@ returns-clause-presses g c =
       ends = second.ends;
       pressed = pressed_then c.press_if-2.result _ _ _ _ _ first.pressed second.pressed;
       cause = caused_after _ _ _ _ (first.cause.same (λ e. absurd (cc))) second.cause;
-      ready = second.ready;
     }
 
 -- the first key ended the run
@@ -21,5 +20,4 @@ returns-in-Over-clause-presses g c =
       ends = first.ends;
       pressed = pressed_before c.in-Over.status _ _ _ _ first.pressed;
       cause = first.cause;
-      ready = first.ready;
     }

@@ -1,11 +1,11 @@
 -- The session does what the key's outcome says, by what was replied. So by whether it wanted memory, and whether a run
 -- went on in it, this key was made, as a list of one, or memory ran out in its turn.
-use Rattle.std.proofs.Common.{Some, ap, refl, sym, subst, ◌∙◌}
+use Rattle.std.proofs.Common.{Some, ap, sym, subst, ◌∙◌}
 use Rattle.std.proofs.lemmas.Result.{err_from_is_err_and}
 use Rattle.synth_session.specs.Tick.{RunFits}
 use Rattle.synth_top.specs.Turn.{makes_steps}
 use Rattle.synth_top.proofs.MadeKeys.{press_unmade, rest_answer, run_ended, still_made, unmade_as}
-use Rattle.synth_top.proofs.maker.Maker.press.Goals as goal
+use Rattle.synth_top.proofs.maker.MakerMaking.press.Goals as goal
 
 -- the key wanted memory
 pub returns-in_err-answer-clause-made : goal.returns-in_err-answer-clause-made

@@ -1,13 +1,10 @@
 -- Each turn of the loop presses the key of one byte more, after those of the bytes before it.
-use Rattle.std.proofs.Common.{◌≡◌, ◌+◌, ◌∷◌, [], ◌++◌, List, drop, get_or, length, take, refl, subst, arith}
+use Rattle.std.proofs.Common.{◌+◌, ◌∷◌, [], ◌++◌, drop, get_or, map, take, refl, arith}
 use Rattle.std.proofs.lemmas.Result.{err_from_is_err_and}
-use Rattle.synth_session.specs.declared.key.Key.{Key}
-use Rattle.synth_session.specs.declared.key.Key.TheVariants.{Char}
-use Rattle.synth_top.specs.Private.MakingKeys.{KeysMade, KeysUnmade}
-use Rattle.synth_top.specs.Private.MakingText.{text_keys}
+use Rattle.synth_top.specs.Keys.{key_of}
 use Rattle.synth_top.proofs.MadeKeys.{keys_as, none_made, then_made, then_unmade, unmade_as, unmade_before, unmade_keys_as}
 use Rattle.synth_top.proofs.MadeTexts.{text_all, text_more, text_whole}
-use Rattle.synth_top.proofs.maker.Maker.press_text.Goals as goal
+use Rattle.synth_top.proofs.making.press_text.Goals as goal
 
 -- none was pressed
 pub loop-byte-init : goal.loop-byte-init
@@ -20,8 +17,8 @@ loop-byte-preserved g c =
     let at = c.loop-byte.byte-index in
     record {
       made = keys_as _ _ _ _ _ _ (text_more text at c.loop-byte-test.true)
-          (then_made (text_keys (take at text))
-          (Char (get_or text at 0) ∷ []) _ _ _ _ c.loop-byte.invariant.made _ _ c.in_ok-press.ensures.made);
+          (then_made (map key_of (take at text))
+          (key_of (get_or text at 0) ∷ []) _ _ _ _ c.loop-byte.invariant.made _ _ (rw c.key_of.ensures at c.in_ok-press.ensures.made));
       ready = c.press.ensures.ready;
     }
 
@@ -33,9 +30,9 @@ returns-in_err-press-clause-made g c =
     let at = c.loop-byte.byte-index in
     unmade_as _ _ _ _ _ _ _ p.1
     (unmade_keys_as _ _ _ _ _ (text_whole text at c.loop-byte-test.true)
-    (unmade_before (text_keys (take at text) ++ Char (get_or text at 0) ∷ []) (text_keys (drop (at + 1) text)) _ _ _
-    (then_unmade (text_keys (take at text))
-    (Char (get_or text at 0) ∷ []) _ _ _ _ c.loop-byte.invariant.made _ c.in_err-press.ensures.made)))
+    (unmade_before (map key_of (take at text) ++ key_of (get_or text at 0) ∷ []) (map key_of (drop (at + 1) text)) _ _ _
+    (then_unmade (map key_of (take at text))
+    (key_of (get_or text at 0) ∷ []) _ _ _ _ c.loop-byte.invariant.made _ (rw c.key_of.ensures at c.in_err-press.ensures.made))))
 
 -- all were pressed
 pub returns-clause-made : goal.returns-clause-made

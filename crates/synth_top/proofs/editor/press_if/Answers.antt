@@ -1,7 +1,7 @@
 use Rattle.std.proofs.Common.{[], ap, sym, refl, arith}
 use Rattle.std.specs.Option.{option_to_list}
 use Rattle.synth_top.proofs.OneKey.{none_shown, unchanged_itself}
-use Rattle.synth_top.proofs.editor.Editor.press_if.Goals as goal
+use Rattle.synth_top.proofs.editor.press_if.Goals as goal
 
 -- no key was pressed
 pub returns-in-None-clause-presses : goal.returns-in-None-clause-presses
@@ -14,5 +14,4 @@ returns-in-None-clause-presses g c = record {
     wants = refl;
   };
   cause = record { later = omega arith; rose = λ e. absurd (cc); same = λ other. refl; last = λ e. refl };
-  ready = c.requires;
 }

@@ -9,7 +9,7 @@ use Rattle.synth_top.proofs.ClaimedFiles.{told_itself}
 use Rattle.synth_top.proofs.CountsInTurn.{counts_shot}
 use Rattle.synth_top.proofs.Courses.{opening_failed, opening_wanted}
 use Rattle.synth_top.proofs.EditorRuns.{so_far_none, so_far_more, ended_by_byte, read_failed, read_wanted, ended_at_end, ended_at_limit}
-use Rattle.synth_top.proofs.editor.Editor.run.Goals as goal
+use Rattle.synth_top.proofs.editor.run.Goals as goal
 
 -- the opening screen was cut short
 pub returns-in-Err-Failed-clause-runs : goal.returns-in-Err-Failed-clause-runs
@@ -26,7 +26,7 @@ returns-in-Err-OutOfMemory-clause-runs g c =
 -- the opening screen was written
 pub loop-init : goal.loop-init
 loop-init g c = record {
-  so_far = so_far_none _ _ _ _ _ _ refl refl (c.start.ensures.reader ∙ c.requires.reader)
+  so_far = so_far_none _ _ _ _ _ _ refl refl c.new-reader.ensures
       (record {
         wrote = c.in-Ok.ensures.wrote.all;
         state = ap (λ (s : PlainSession). record { session = s; files = (g.F.Files.told c.args.files.now).stored }) c.start.ensures.session;
@@ -53,8 +53,8 @@ returns-in-Over-clause-runs g c =
 pub loop-preserved : goal.loop-preserved
 loop-preserved g c = record {
   so_far = so_far_more _ (plain_options c.args.options.now) _ _ _ _ _ _ c.loop.invariant.so_far _ _ _ c.in-Ok-Some.byte _ _ c.feed-given.ensures.keys c.feed-given.ensures.held
-      (rw c.in-Ok-Some.field-0-is at c.in-Ok-Some.ensures.byte) c.in-Ok-Some.ensures.one _ c.press_keys.ensures.reader c.in_default.ensures.presses.pressed;
-  ready = c.press_keys.ensures.presses.ready;
+      (rw c.in-Ok-Some.field-0-is at c.in-Ok-Some.ensures.byte) c.in-Ok-Some.ensures.one _ refl c.in_default.ensures.presses.pressed;
+  ready = c.press_keys.ensures.ready;
   unfailed_reads = c.in-Ok-Some.ensures.cause.same (λ e. absurd (cc)) ∙ c.loop.invariant.unfailed_reads;
   unfailed_writes = c.in_default.ensures.presses.cause.same (λ e. absurd (cc)) ∙ c.loop.invariant.unfailed_writes;
   led = c.in-Ok-Some.ensures.led _ c.loop.invariant.led;
