@@ -52,8 +52,11 @@ static DAMAGES: [(&str, Damage, bool); 20] = [
 
 /// Tells of each of these damages what the listing is read as where it befalls one line, each line in turn.
 pub(crate) fn play(text: &[u8], words: &[Vec<u8>], told: &mut Told) -> Option<()> {
+    let listing = str::from_utf8(text).ok()?;
     let mut damaged = Vec::new(told.alloc());
-    play_each(str::from_utf8(text).ok()?, words, &mut damaged, told)
+    let played = play_each(listing, words, &mut damaged, told);
+    drop(damaged);
+    played
 }
 
 /// Tells what the listing is read as by damaged texts that are made one after the other.

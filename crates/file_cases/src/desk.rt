@@ -95,14 +95,19 @@ impl<F: Files> Desk<F> {
 
     /// Reads into a buffer of the size, of blanks, if a file is open on the desk, and tells what the buffer has.
     fn read(&mut self, size: &[u8], told: &mut Told) -> Option<()> {
-        let mut buf = buffer(told.alloc(), size)?;
         if !self.is_open {
             return None;
         }
-        told.value(&self.files.read(buf.as_mut_slice()));
-        told.put(b' ');
-        told.word_line(buf.as_slice());
-        Some(())
+        match buffer(told.alloc(), size) {
+            Some(mut buf) => {
+                told.value(&self.files.read(buf.as_mut_slice()));
+                told.put(b' ');
+                told.word_line(buf.as_slice());
+                drop(buf);
+                Some(())
+            }
+            None => None,
+        }
     }
 
     /// Writes the piece, if a new content is begun on the desk.
@@ -116,15 +121,24 @@ impl<F: Files> Desk<F> {
     /// Loads the file of the name from the desk's files as a program: how many slots that has.
     fn load(&mut self, alloc: Global, name: &[u8]) -> Result<u32, FileRefusal> {
         self.is_open = false;
-        let tree = load(alloc, name, &mut self.files)?;
-        Ok(tree.slots())
+        match load(alloc, name, &mut self.files) {
+            Ok(tree) => {
+                let slots = tree.slots();
+                drop(tree);
+                Ok(slots)
+            }
+            Err(refusal) => Err(refusal),
+        }
     }
 
     /// Loads the file of the name from the desk's files as the input of a program, and tells its bytes.
     fn load_input(&mut self, name: &[u8], told: &mut Told) -> Option<()> {
         self.is_open = false;
         match load_input(told.alloc(), name, &mut self.files) {
-            Ok(bytes) => tell_bytes(bytes.as_slice(), told),
+            Ok(bytes) => {
+                tell_bytes(bytes.as_slice(), told);
+                drop(bytes);
+            }
             Err(refusal) => told.value_line(&refusal),
         }
         Some(())
@@ -137,10 +151,16 @@ impl<F: Files> Desk<F> {
         text: &[u8],
         name: &[u8],
     ) -> Result<(), FileRefusal> {
-        let tree = read_listing(alloc, text)?;
-        self.is_begun = false;
-        self.is_open = false;
-        save(&tree, name, &mut self.files)
+        match read_listing(alloc, text) {
+            Ok(tree) => {
+                self.is_begun = false;
+                self.is_open = false;
+                let saved = save(&tree, name, &mut self.files);
+                drop(tree);
+                saved
+            }
+            Err(refusal) => Err(refusal),
+        }
     }
 
     /// Loads a program from the desk's files, and saves it under another name.
@@ -152,16 +172,28 @@ impl<F: Files> Desk<F> {
     ) -> Result<(), FileRefusal> {
         self.is_begun = false;
         self.is_open = false;
-        let tree = load(alloc, name, &mut self.files)?;
-        save(&tree, other, &mut self.files)
+        match load(alloc, name, &mut self.files) {
+            Ok(tree) => {
+                let saved = save(&tree, other, &mut self.files);
+                drop(tree);
+                saved
+            }
+            Err(refusal) => Err(refusal),
+        }
     }
 
     /// Loads a program from the desk's files, and rescues it.
     fn load_and_rescue(&mut self, alloc: Global, name: &[u8]) -> Result<(), FileRefusal> {
         self.is_begun = false;
         self.is_open = false;
-        let tree = load(alloc, name, &mut self.files)?;
-        rescue(&tree, &mut self.files)
+        match load(alloc, name, &mut self.files) {
+            Ok(tree) => {
+                let rescued = rescue(&tree, &mut self.files);
+                drop(tree);
+                rescued
+            }
+            Err(refusal) => Err(refusal),
+        }
     }
 }
 

@@ -6,7 +6,7 @@ use case_script::{Told, numbers_of};
 use std::alloc::Global;
 use std::fs::File;
 use std::os::unix::fs::symlink;
-use std::{fs, io, rt};
+use std::{fs, io, mem, rt};
 use synth_outside::{MemFiles, StdFiles};
 
 /// The files at hand: in memory, or of the system.
@@ -30,15 +30,22 @@ impl<'a, R: rt::Files<File = File> + AllocGlobal> FilesAtHand<'a, R> {
     /// Takes files in memory to hand, of which there is none; the calls of these numbers are to fail.
     pub(crate) fn take_memory(&mut self, fails: &[Vec<u8>], told: &mut Told) -> Option<()> {
         let alloc = told.alloc();
-        self.memory = Desk::new(MemFiles::new(alloc, numbers_of(alloc, fails)?));
-        self.is_system = false;
-        told.line("Ok");
-        Some(())
+        match numbers_of(alloc, fails) {
+            Some(fails) => {
+                let memory = Desk::new(MemFiles::new(alloc, fails));
+                drop(mem::replace(&mut self.memory, memory));
+                self.is_system = false;
+                told.line("Ok");
+                Some(())
+            }
+            None => None,
+        }
     }
 
     /// Takes the files of the system to hand.
     pub(crate) fn take_system(&mut self, rt: &'a R, told: &mut Told) -> Option<()> {
-        self.system = Desk::new(StdFiles::new(rt, told.alloc()));
+        let system = Desk::new(StdFiles::new(rt, told.alloc()));
+        drop(mem::replace(&mut self.system, system));
         self.is_system = true;
         told.line("Ok");
         Some(())
@@ -86,7 +93,10 @@ impl<'a, R: rt::Files<File = File> + AllocGlobal> FilesAtHand<'a, R> {
 fn tell_file<R: rt::Files + AllocGlobal>(rt: &R, name: &[u8], told: &mut Told) -> Option<()> {
     let name = str::from_utf8(name).ok()?;
     match fs::read(rt, name) {
-        Ok(bytes) => tell_bytes(bytes.as_slice(), told),
+        Ok(bytes) => {
+            tell_bytes(bytes.as_slice(), told);
+            drop(bytes);
+        }
         Err(_) => told.line("no file"),
     }
     Some(())

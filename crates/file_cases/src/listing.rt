@@ -42,18 +42,36 @@ fn push_at(text: &mut Vec<u8>, level: u32, line: &[u8]) -> Option<()> {
 
 /// Reads the text, with these pieces behind it, as a listing.
 pub(crate) fn read(text: &[u8], pieces: &[Vec<u8>], told: &mut Told) -> Option<()> {
-    let bytes = with_pieces(told.alloc(), text, pieces)?;
-    tell_reading(reading_of(told.alloc(), bytes.as_slice()), told);
-    Some(())
+    match with_pieces(told.alloc(), text, pieces) {
+        Some(bytes) => {
+            tell_reading(reading_of(told.alloc(), bytes.as_slice()), told);
+            drop(bytes);
+            Some(())
+        }
+        None => None,
+    }
 }
 
 /// The text that is read as a listing, with these pieces behind it.
 fn with_pieces(alloc: Global, text: &[u8], pieces: &[Vec<u8>]) -> Option<Vec<u8>> {
-    let mut bytes = text.to_vec(alloc).ok()?;
-    for piece in pieces {
-        bytes.extend_from_slice(piece.as_slice()).ok()?;
+    match text.to_vec(alloc) {
+        Ok(mut bytes) => match push_pieces(&mut bytes, pieces) {
+            Some(()) => Some(bytes),
+            None => {
+                drop(bytes);
+                None
+            }
+        },
+        Err(_) => None,
     }
-    Some(bytes)
+}
+
+/// Puts these pieces behind the text that is read as a listing.
+fn push_pieces(text: &mut Vec<u8>, pieces: &[Vec<u8>]) -> Option<()> {
+    for piece in pieces {
+        text.extend_from_slice(piece.as_slice()).ok()?;
+    }
+    Some(())
 }
 
 /// Tells what a text is read as that may be a listing.
@@ -82,7 +100,11 @@ pub(crate) enum Reading {
 /// Reads the text as a listing, and lists what was read.
 pub(crate) fn reading_of(alloc: Global, text: &[u8]) -> Reading {
     match read_listing(alloc, text) {
-        Ok(tree) => compared(&tree, text),
+        Ok(tree) => {
+            let reading = compared(&tree, text);
+            drop(tree);
+            reading
+        }
         Err(refusal) => Reading::Refused(refusal),
     }
 }

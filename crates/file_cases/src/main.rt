@@ -25,7 +25,9 @@ fn main(rt: HostRuntime) -> io::Result<()> {
 /// Plays the script of cases of files that standard input has.
 fn play_all<R: Files<File = File> + Input + Print + AllocGlobal>(rt: &R) -> io::Result<()> {
     let mut scene = Scene::new(rt, rt.alloc());
-    play_script(rt, &mut scene)
+    let played = play_script(rt, &mut scene);
+    drop(scene);
+    played
 }
 
 /// What a script of files holds from line to line: the files at hand, the lines of text for the next case on a text,
@@ -55,12 +57,31 @@ fn play_script<'a, R: Files<File = File> + Input + Print + AllocGlobal>(
 ) -> io::Result<()> {
     let alloc = rt.alloc();
     for line in rt.lines(alloc) {
-        let line = line?;
-        println!(rt; "{line}")?;
-        play_line(rt, scene, line.as_bytes())?;
-        print_told(rt, &scene.told)?;
+        play_read(rt, scene, line?)?;
     }
     Ok(())
+}
+
+/// Plays a line of the script of files that was read.
+fn play_read<'a, R: Files<File = File> + Print + AllocGlobal>(
+    rt: &'a R,
+    scene: &mut Scene<'a, R>,
+    line: String,
+) -> io::Result<()> {
+    let played = print_played(rt, scene, line.as_str());
+    drop(line);
+    played
+}
+
+/// Plays a line of the script of files, and prints it and what is told of it.
+fn print_played<'a, R: Files<File = File> + Print + AllocGlobal>(
+    rt: &'a R,
+    scene: &mut Scene<'a, R>,
+    line: &str,
+) -> io::Result<()> {
+    println!(rt; "{line}")?;
+    play_line(rt, scene, line.as_bytes())?;
+    print_told(rt, &scene.told)
 }
 
 /// Plays a line of the script of files: a heading, a line of text, or a case, whose answer is told.
@@ -93,8 +114,12 @@ fn play_case<'a, R: Files<File = File> + AllocGlobal>(
     case: &[u8],
 ) -> Option<()> {
     match words_of(rt.alloc(), case) {
-        Ok(Some(words)) => play_words(rt, scene, words.as_slice()),
-        _ => None,
+        Ok(Some(words)) => {
+            let played = play_words(rt, scene, words.as_slice());
+            drop(words);
+            played
+        }
+        Ok(None) | Err(_) => None,
     }
 }
 

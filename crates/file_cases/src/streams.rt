@@ -44,21 +44,39 @@ fn name_of(word: &[u8]) -> Option<&str> {
 /// Reads from a source in memory with the bytes; the first word has the numbers of the calls that are to fail.
 fn read_memory(bytes: &[u8], words: &[Vec<u8>], told: &mut Told) -> Option<()> {
     let (fails, sizes) = words.split_first()?;
-    let mut source = memory_source(told.alloc(), bytes, fails)?;
-    reads(&mut source, sizes, told)
+    match memory_source(told.alloc(), bytes, fails) {
+        Some(mut source) => {
+            let read = reads(&mut source, sizes, told);
+            drop(source);
+            read
+        }
+        None => None,
+    }
 }
 
 /// A source in memory with the bytes, of which the calls of these numbers are to fail.
 fn memory_source(alloc: Global, bytes: &[u8], fails: &[u8]) -> Option<MemSource> {
-    let bytes = bytes.to_vec(alloc).ok()?;
-    Some(MemSource::new(bytes, fails_of(alloc, fails)?))
+    match bytes.to_vec(alloc) {
+        Ok(bytes) => match fails_of(alloc, fails) {
+            Some(fails) => Some(MemSource::new(bytes, fails)),
+            None => {
+                drop(bytes);
+                None
+            }
+        },
+        Err(_) => None,
+    }
 }
 
 /// The numbers of the calls of a source or a sink that are to fail, in a word.
 fn fails_of(alloc: Global, word: &[u8]) -> Option<Vec<u64>> {
     match words_of(alloc, word) {
-        Ok(Some(words)) => numbers_of(alloc, words.as_slice()),
-        _ => None,
+        Ok(Some(words)) => {
+            let fails = numbers_of(alloc, words.as_slice());
+            drop(words);
+            fails
+        }
+        Ok(None) | Err(_) => None,
     }
 }
 
@@ -70,7 +88,12 @@ fn read_stumbling(failing: u32, sizes: &[Vec<u8>], told: &mut Told) -> Option<()
 /// Reads a source over a file of the system, if that could be opened.
 fn read_file(file: io::Result<File>, sizes: &[Vec<u8>], told: &mut Told) -> Option<()> {
     match file {
-        Ok(file) => reads(&mut StdSource::new(file), sizes, told),
+        Ok(file) => {
+            let mut source = StdSource::new(file);
+            let read = reads(&mut source, sizes, told);
+            drop(source);
+            read
+        }
         Err(_) => tell_refused(told),
     }
 }
@@ -91,11 +114,16 @@ fn reads<S: Source>(source: &mut S, sizes: &[Vec<u8>], told: &mut Told) -> Optio
 
 /// Reads a source into a buffer of the size.
 fn read<S: Source>(source: &mut S, size: &[u8], told: &mut Told) -> Option<()> {
-    let mut buf = buffer(told.alloc(), size)?;
-    told.value(&source.read(buf.as_mut_slice()));
-    told.put(b' ');
-    told.word_line(buf.as_slice());
-    Some(())
+    match buffer(told.alloc(), size) {
+        Some(mut buf) => {
+            told.value(&source.read(buf.as_mut_slice()));
+            told.put(b' ');
+            told.word_line(buf.as_slice());
+            drop(buf);
+            Some(())
+        }
+        None => None,
+    }
 }
 
 /// A buffer of the size, of blanks, for reading a source, if that isn't 0.
@@ -104,22 +132,37 @@ pub(crate) fn buffer(alloc: Global, size: &[u8]) -> Option<Vec<u8>>
 {
     match number_of(size)? {
         0 => None,
-        size => vec![in alloc; b' '; size as usize].ok(),
+        size => match vec![in alloc; b' '; size as usize] {
+            Ok(buffer) => Some(buffer),
+            Err(_) => None,
+        },
     }
 }
 
 /// Writes to a sink in memory whose calls of these numbers are to fail, and tells what it took.
 fn write_memory(fails: &[u8], pieces: &[Vec<u8>], told: &mut Told) -> Option<()> {
-    let mut sink = MemSink::new(told.alloc(), fails_of(told.alloc(), fails)?);
-    let written = writes(&mut sink, pieces, told);
-    told.word_line(sink.bytes());
-    written
+    match fails_of(told.alloc(), fails) {
+        Some(fails) => {
+            let mut sink = MemSink::new(told.alloc(), fails);
+            let written = writes(&mut sink, pieces, told);
+            told.word_line(sink.bytes());
+            drop(sink);
+            written
+        }
+        None => None,
+    }
 }
 
 /// Writes to a sink over a stream that takes as many bytes as the room has.
 fn write_slice(room: &[u8], pieces: &[Vec<u8>], told: &mut Told) -> Option<()> {
-    let mut room = room.to_vec(told.alloc()).ok()?;
-    writes(&mut StdSink::new(room.as_mut_slice()), pieces, told)
+    match room.to_vec(told.alloc()) {
+        Ok(mut room) => {
+            let written = writes(&mut StdSink::new(room.as_mut_slice()), pieces, told);
+            drop(room);
+            written
+        }
+        Err(_) => None,
+    }
 }
 
 /// Writes these pieces to a sink whose stream fails in its call of this number.
@@ -130,7 +173,12 @@ fn write_stumbling(failing: u32, pieces: &[Vec<u8>], told: &mut Told) -> Option<
 /// Writes to a sink over a file of the system, if that could be opened.
 fn write_file(file: io::Result<File>, pieces: &[Vec<u8>], told: &mut Told) -> Option<()> {
     match file {
-        Ok(file) => writes(&mut StdSink::new(file), pieces, told),
+        Ok(file) => {
+            let mut sink = StdSink::new(file);
+            let written = writes(&mut sink, pieces, told);
+            drop(sink);
+            written
+        }
         Err(_) => tell_refused(told),
     }
 }
@@ -139,7 +187,12 @@ fn write_file(file: io::Result<File>, pieces: &[Vec<u8>], told: &mut Told) -> Op
 fn write_buffered(file: io::Result<File>, pieces: &[Vec<u8>], told: &mut Told) -> Option<()> {
     match file {
         Ok(file) => match BufWriter::new(told.alloc(), file) {
-            Ok(writer) => writes(&mut StdSink::new(writer), pieces, told),
+            Ok(writer) => {
+                let mut sink = StdSink::new(writer);
+                let written = writes(&mut sink, pieces, told);
+                drop(sink);
+                written
+            }
             Err(_) => None,
         },
         Err(_) => tell_refused(told),

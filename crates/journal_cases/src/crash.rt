@@ -5,6 +5,7 @@ use crate::sessions::{empty_disk, session, source_of};
 use case_script::Told;
 use key_journal::{Disk, DiskCall, MemDisk};
 use std::alloc::Global;
+use std::mem;
 use synth_outside::MemSource;
 
 /// What cases of the journal find of a crash: the keys that are recovered after it.
@@ -49,7 +50,7 @@ impl Crash {
 
     /// Tells what a crash leaves at each moment of a session with these keys over an empty disk.
     pub(crate) fn walk(&mut self, keys: &[u8], told: &mut Told) -> Option<()> {
-        self.whole = self.disk_behind(keys)?;
+        self.take_whole(keys)?;
         let mut start = 0;
         let mut seen = 0u64;
         for given in 0..=keys.len() {
@@ -63,11 +64,24 @@ impl Crash {
         tell_seen(seen, told)
     }
 
+    /// Takes the disk of a session with these keys for the one whose calls a crash cuts off.
+    fn take_whole(&mut self, keys: &[u8]) -> Option<()> {
+        match self.disk_behind(keys) {
+            Some(disk) => {
+                drop(mem::replace(&mut self.whole, disk));
+                Some(())
+            }
+            None => None,
+        }
+    }
+
     /// The disk of a session with these keys over an empty one, from which keys are to be recovered after a
     /// crash.
     fn disk_behind(&mut self, keys: &[u8]) -> Option<MemDisk> {
-        let source = source_of(self.alloc, keys)?;
-        session(source, empty_disk(self.alloc), &mut self.given)
+        match source_of(self.alloc, keys) {
+            Some(source) => session(source, empty_disk(self.alloc), &mut self.given),
+            None => None,
+        }
     }
 
     /// After how many calls of the session that a crash cuts off so many keys were given, and no more, which
@@ -78,8 +92,14 @@ impl Crash {
         if given >= keys.len() {
             return Some(calls.saturating_add(1));
         }
-        let behind = self.disk_behind(&keys[..given + 1])?;
-        Some(behind.done().len().min(calls))
+        match self.disk_behind(&keys[..given + 1]) {
+            Some(behind) => {
+                let end = behind.done().len().min(calls);
+                drop(behind);
+                Some(end)
+            }
+            None => None,
+        }
     }
 
     /// Whether after a crash at each of these moments so many of the keys or one more are recovered: from how
@@ -120,20 +140,34 @@ impl Crash {
 
 /// Finds the keys that are recovered after a crash from an image.
 fn recover(alloc: Global, image: &[u8], given: &mut Vec<u8>) -> Option<()> {
-    let disk = disk_of(alloc, image)?;
-    session(
-        MemSource::new(Vec::new(alloc), Vec::new(alloc)),
-        disk,
-        given,
-    )?;
-    Some(())
+    match disk_of(alloc, image) {
+        Some(disk) => recover_from(alloc, disk, given),
+        None => None,
+    }
+}
+
+/// Finds the keys that are recovered after a crash from the disk that it left.
+fn recover_from(alloc: Global, disk: MemDisk, given: &mut Vec<u8>) -> Option<()> {
+    let source = MemSource::new(Vec::new(alloc), Vec::new(alloc));
+    match session(source, disk, given) {
+        Some(disk) => {
+            drop(disk);
+            Some(())
+        }
+        None => None,
+    }
 }
 
 /// The disk that a crash left in a case, from which a session recovers its keys.
 fn disk_of(alloc: Global, image: &[u8]) -> Option<MemDisk> {
     let mut disk = MemDisk::new(alloc, Vec::new(alloc));
-    disk.write_at(0, image).ok()?;
-    Some(disk)
+    match disk.write_at(0, image) {
+        Ok(()) => Some(disk),
+        Err(_) => {
+            drop(disk);
+            None
+        }
+    }
 }
 
 /// Puts the keys behind those that were recovered, unless they are among them.
@@ -141,7 +175,10 @@ fn note(alloc: Global, keys: &Vec<u8>, recovered: &mut Vec<Vec<u8>>) -> Option<(
     if recovered.contains(keys) {
         return Some(());
     }
-    recovered.push(keys.as_slice().to_vec(alloc).ok()?).ok()
+    match keys.as_slice().to_vec(alloc) {
+        Ok(keys) => recovered.push(keys).ok(),
+        Err(_) => None,
+    }
 }
 
 /// Whether the keys that are recovered after a crash are the first ones, so many or one more.

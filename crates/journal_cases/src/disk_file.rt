@@ -27,12 +27,24 @@ pub(crate) fn play(
 
 /// Tells how a session goes over the journal in its file of the system, with these new keys, up to their end.
 fn tell_session(rt: &HostRuntime, keys: &[u8], told: &mut Told) -> Option<()> {
-    let source = source_of(told.alloc(), keys)?;
+    match source_of(told.alloc(), keys) {
+        Some(source) => {
+            tell_from(rt, source, told);
+            Some(())
+        }
+        None => None,
+    }
+}
+
+/// Tells how a session goes over the journal in its file of the system, with the new keys of this source.
+fn tell_from(rt: &HostRuntime, source: MemSource, told: &mut Told) {
     match StdDisk::open(rt) {
         Ok(disk) => tell_keys(source, disk, told),
-        Err(_) => told.line("not opened"),
+        Err(_) => {
+            drop(source);
+            told.line("not opened");
+        }
     }
-    Some(())
 }
 
 /// Tells the last answer of a session over the journal in its file of the system, and the keys that it gave.
@@ -41,15 +53,22 @@ fn tell_keys(source: MemSource, disk: StdDisk, told: &mut Told) {
         Ok(mut journal) => {
             tell_all(&mut journal, told);
             told.line("");
+            drop(journal);
         }
-        Err(_) => told.line("not synced"),
+        Err(left) => {
+            drop(left);
+            told.line("not synced");
+        }
     }
 }
 
 /// Tells the bytes of the journal's file.
 fn tell_bytes(bytes: io::Result<Vec<u8>>, told: &mut Told) -> Option<()> {
     match bytes {
-        Ok(bytes) => told.word_line(bytes.as_slice()),
+        Ok(bytes) => {
+            told.word_line(bytes.as_slice());
+            drop(bytes);
+        }
         Err(_) => told.line("no file"),
     }
     Some(())

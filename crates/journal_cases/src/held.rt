@@ -59,21 +59,42 @@ impl Held {
     /// Takes an empty disk, of which these calls fail.
     fn take_disk(&mut self, fails: &[Vec<u8>], told: &mut Told) -> Option<()> {
         let alloc = told.alloc();
-        *self = Held::Disk(MemDisk::new(alloc, numbers_of(alloc, fails)?));
-        told.line("Ok");
-        Some(())
+        match numbers_of(alloc, fails) {
+            Some(fails) => {
+                self.take(Held::Disk(MemDisk::new(alloc, fails)));
+                told.line("Ok");
+                Some(())
+            }
+            None => None,
+        }
+    }
+
+    /// Holds this in place of what is held.
+    fn take(&mut self, held: Held) {
+        drop(mem::replace(self, held));
     }
 
     /// Opens a journal over the disk that is held, with these new keys, of whose source these calls fail.
     fn open(&mut self, keys: &[u8], fails: &[Vec<u8>], told: &mut Told) -> Option<()> {
-        let source = source_failing(told.alloc(), keys, fails)?;
+        match source_failing(told.alloc(), keys, fails) {
+            Some(source) => self.open_from(source, told),
+            None => None,
+        }
+    }
+
+    /// Opens a journal over the disk that is held, with the new keys of this source.
+    fn open_from(&mut self, source: MemSource, told: &mut Told) -> Option<()> {
         match mem::replace(self, Held::new(told.alloc())) {
             Held::Disk(disk) => {
                 let (held, opened) = opened(source, disk);
-                *self = held;
+                self.take(held);
                 tell_done(opened, told)
             }
-            Held::Journal(_) => None,
+            Held::Journal(journal) => {
+                drop(journal);
+                drop(source);
+                None
+            }
         }
     }
 
@@ -81,49 +102,76 @@ impl Held {
     fn part(&mut self, told: &mut Told) -> Option<()> {
         match mem::replace(self, Held::new(told.alloc())) {
             Held::Journal(journal) => {
-                let (_, disk) = journal.parts();
-                *self = Held::Disk(disk);
+                let (source, disk) = journal.parts();
+                drop(source);
+                self.take(Held::Disk(disk));
                 tell_done(Ok(()), told)
             }
-            Held::Disk(_) => None,
+            Held::Disk(disk) => {
+                drop(disk);
+                None
+            }
         }
     }
 
     /// Clears the journal, if it gave a key; its disk is held then.
     fn clear(&mut self, told: &mut Told) -> Option<()> {
         match mem::replace(self, Held::new(told.alloc())) {
-            Held::Journal(journal) => {
-                let (disk, done) = cleared(journal)?;
-                *self = Held::Disk(disk);
-                tell_done(done, told)
+            Held::Journal(journal) => match cleared(journal) {
+                Some((disk, done)) => {
+                    self.take(Held::Disk(disk));
+                    tell_done(done, told)
+                }
+                None => None,
+            },
+            Held::Disk(disk) => {
+                drop(disk);
+                None
             }
-            Held::Disk(_) => None,
         }
     }
 }
 
 /// A source of these keys for a journal that is to be held, of which these calls fail.
 fn source_failing(alloc: Global, keys: &[u8], fails: &[Vec<u8>]) -> Option<MemSource> {
-    let keys = keys.to_vec(alloc).ok()?;
-    Some(MemSource::new(keys, numbers_of(alloc, fails)?))
+    match keys.to_vec(alloc) {
+        Ok(keys) => match numbers_of(alloc, fails) {
+            Some(fails) => Some(MemSource::new(keys, fails)),
+            None => {
+                drop(keys);
+                None
+            }
+        },
+        Err(_) => None,
+    }
 }
 
 /// What is held once a journal was to be opened over the disk.
 fn opened(source: MemSource, disk: MemDisk) -> (Held, Result<(), DiskFault>) {
     match JournalKeys::open(source, disk) {
         Ok(journal) => (Held::Journal(journal), Ok(())),
-        Err((fault, _, disk)) => (Held::Disk(disk), Err(fault)),
+        Err((fault, source, disk)) => {
+            drop(source);
+            (Held::Disk(disk), Err(fault))
+        }
     }
 }
 
 /// The disk of the journal that the script held, once that was to be cleared, if it gave a key.
 fn cleared(journal: Journal) -> Option<(MemDisk, Result<(), DiskFault>)> {
     if journal.given() == 0 {
+        drop(journal);
         return None;
     }
     match journal.clear() {
-        Ok((_, disk)) => Some((disk, Ok(()))),
-        Err((fault, _, disk)) => Some((disk, Err(fault))),
+        Ok((source, disk)) => {
+            drop(source);
+            Some((disk, Ok(())))
+        }
+        Err((fault, source, disk)) => {
+            drop(source);
+            Some((disk, Err(fault)))
+        }
     }
 }
 
@@ -174,11 +222,16 @@ fn write_at(disk: &mut MemDisk, at: &[u8], piece: &[u8], told: &mut Told) -> Opt
 fn read_at(disk: &mut MemDisk, at: &[u8], size: &[u8], told: &mut Told) -> Option<()> {
     let at = number_of(at)?;
     let size = number_of(size)?;
-    let mut buf = vec![in told.alloc(); b' '; size as usize].ok()?;
-    told.value(&disk.read_at(at as u64, buf.as_mut_slice()));
-    told.text(" ");
-    told.word_line(buf.as_slice());
-    Some(())
+    match vec![in told.alloc(); b' '; size as usize] {
+        Ok(mut buf) => {
+            told.value(&disk.read_at(at as u64, buf.as_mut_slice()));
+            told.text(" ");
+            told.word_line(buf.as_slice());
+            drop(buf);
+            Some(())
+        }
+        Err(_) => None,
+    }
 }
 
 /// Makes the call on the journal that is held.

@@ -34,7 +34,7 @@ impl Images {
 
     /// Finds for a case each image that a crash may leave after these calls on an empty disk.
     pub(crate) fn find(&mut self, calls: &[DiskCall]) -> Option<()> {
-        self.disk = empty_disk(self.alloc);
+        drop(mem::replace(&mut self.disk, empty_disk(self.alloc)));
         self.leave_disk()?;
         for call in calls {
             self.pass(call)?;
@@ -56,8 +56,10 @@ impl Images {
     /// Leaves the disk of the case, as it reads, for the only image.
     fn leave_disk(&mut self) -> Option<()> {
         self.all.clear();
-        let image = self.disk.bytes().to_vec(self.alloc).ok()?;
-        self.all.push(image).ok()
+        match self.disk.bytes().to_vec(self.alloc) {
+            Ok(image) => self.all.push(image).ok(),
+            Err(_) => None,
+        }
     }
 
     /// Writes to the disk of a case of the journal, of which images are found, at a place within it or at its
@@ -86,7 +88,8 @@ impl Images {
         for image in &self.all {
             push_torn(self.alloc, image.as_slice(), place, byte, &mut self.torn).ok()?;
         }
-        self.all = mem::replace(&mut self.torn, Vec::new(self.alloc));
+        let torn = mem::replace(&mut self.torn, Vec::new(self.alloc));
+        drop(mem::replace(&mut self.all, torn));
         Some(())
     }
 }
@@ -110,10 +113,21 @@ fn push_torn(
 /// The image of a case with another byte at a place within it or at its end.
 fn with_byte(alloc: Global, image: &[u8], place: usize, value: u8) -> Result<Vec<u8>, AllocError> {
     let mut bytes = image.to_vec(alloc)?;
-    if place < bytes.len() {
-        bytes[place] = value;
-    } else if place == bytes.len() {
-        bytes.push(value)?;
+    match put_byte(&mut bytes, place, value) {
+        Ok(()) => Ok(bytes),
+        Err(AllocError) => {
+            drop(bytes);
+            Err(AllocError)
+        }
     }
-    Ok(bytes)
+}
+
+/// Puts a byte into the image of a case, at a place within it or at its end.
+fn put_byte(image: &mut Vec<u8>, place: usize, value: u8) -> Result<(), AllocError> {
+    if place < image.len() {
+        image[place] = value;
+    } else if place == image.len() {
+        image.push(value)?;
+    }
+    Ok(())
 }

@@ -20,7 +20,9 @@ use std::io::{BufRead, BufReader};
 
 fn main(rt: HostRuntime) -> io::Result<()> {
     let mut scene = Scene::new(rt.alloc());
-    play_script(&rt, &mut scene)
+    let played = play_script(&rt, &mut scene);
+    drop(scene);
+    played
 }
 
 /// All that a script of cases of the journal of keys is played with: the disk or journal that is held, what is
@@ -48,12 +50,23 @@ impl Scene {
 fn play_script(rt: &HostRuntime, scene: &mut Scene) -> io::Result<()> {
     let alloc = rt.alloc();
     for line in BufReader::new(alloc, rt.reader())?.lines(alloc) {
-        let line = line?;
-        println!(rt; "{line}")?;
-        play_line(rt, scene, line.as_bytes());
-        print_told(rt, &scene.told)?;
+        play_read(rt, scene, line?)?;
     }
     Ok(())
+}
+
+/// Plays a line of the script of the journal that was read.
+fn play_read(rt: &HostRuntime, scene: &mut Scene, line: String) -> io::Result<()> {
+    let played = print_played(rt, scene, line.as_str());
+    drop(line);
+    played
+}
+
+/// Plays a line of the script of the journal, and prints it and what is told of it.
+fn print_played(rt: &HostRuntime, scene: &mut Scene, line: &str) -> io::Result<()> {
+    println!(rt; "{line}")?;
+    play_line(rt, scene, line.as_bytes());
+    print_told(rt, &scene.told)
 }
 
 /// Plays a line of the script of the journal, which is a case unless it is empty or a heading, and tells its answer.
@@ -71,8 +84,12 @@ fn play_line(rt: &HostRuntime, scene: &mut Scene, line: &[u8]) {
 /// Plays a case of the journal, if it is one.
 fn play_case(rt: &HostRuntime, scene: &mut Scene, case: &[u8]) -> Option<()> {
     match words_of(rt.alloc(), case) {
-        Ok(Some(words)) => play_words(rt, scene, words.as_slice()),
-        _ => None,
+        Ok(Some(words)) => {
+            let played = play_words(rt, scene, words.as_slice());
+            drop(words);
+            played
+        }
+        Ok(None) | Err(_) => None,
     }
 }
 

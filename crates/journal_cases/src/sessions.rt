@@ -10,8 +10,10 @@ const MOST_KEYS: usize = 1000;
 
 /// A source of the new keys of a session over a journal, of which no call fails.
 pub(crate) fn source_of(alloc: Global, keys: &[u8]) -> Option<MemSource> {
-    let keys = keys.to_vec(alloc).ok()?;
-    Some(MemSource::new(keys, Vec::new(alloc)))
+    match keys.to_vec(alloc) {
+        Ok(keys) => Some(MemSource::new(keys, Vec::new(alloc))),
+        Err(_) => None,
+    }
 }
 
 /// An empty disk for a session over a journal, of which no call fails.
@@ -26,10 +28,14 @@ pub(crate) fn session(source: MemSource, disk: MemDisk, given: &mut Vec<u8>) -> 
     match JournalKeys::open(source, disk) {
         Ok(mut journal) => {
             let _ = read_all(&mut journal, given);
-            let (_, disk) = journal.parts();
+            let (source, disk) = journal.parts();
+            drop(source);
             Some(disk)
         }
-        Err(_) => None,
+        Err(left) => {
+            drop(left);
+            None
+        }
     }
 }
 
@@ -40,6 +46,7 @@ pub(crate) fn tell_all<S: Source, D: Disk>(journal: &mut JournalKeys<S, D>, told
     told.value(&answer);
     told.text(" ");
     told.word(given.as_slice());
+    drop(given);
 }
 
 /// Reads the keys of a session up to an answer that isn't one.

@@ -30,12 +30,26 @@ pub(crate) fn play(bytes: &[u8], most: &[u8], keys: &[u8], told: &mut Told) -> O
 /// Tells how a session ends over a file whose call of this number alone fails, and what it leaves. Whether that call
 /// was made.
 fn is_cut(bytes: &[u8], most: usize, failing: u32, keys: &[u8], told: &mut Told) -> Option<bool> {
-    let source = source_of(told.alloc(), keys)?;
-    let file = Stumbling::new(told.alloc(), bytes, most, failing)?;
+    match source_of(told.alloc(), keys) {
+        Some(source) => match Stumbling::new(told.alloc(), bytes, most, failing) {
+            Some(file) => Some(is_cut_over(source, file, told)),
+            None => {
+                drop(source);
+                None
+            }
+        },
+        None => None,
+    }
+}
+
+/// Tells how a session ends over this file of which one call fails, and what it leaves. Whether that call was made.
+fn is_cut_over(source: MemSource, file: Stumbling, told: &mut Told) -> bool {
     let disk = tell_session(source, file, told);
     told.text(" leaves ");
     told.word_line(disk.file().bytes());
-    Some(disk.file().has_failed())
+    let has_failed = disk.file().has_failed();
+    drop(disk);
+    has_failed
 }
 
 /// Plays a session of a journal over the file of which one call fails, if it is made, with the new keys of this
@@ -45,10 +59,12 @@ fn tell_session(source: MemSource, file: Stumbling, told: &mut Told) -> FileDisk
     match JournalKeys::open(source, FileDisk::new(file)) {
         Ok(mut journal) => {
             tell_all(&mut journal, told);
-            let (_, disk) = journal.parts();
+            let (source, disk) = journal.parts();
+            drop(source);
             disk
         }
-        Err((fault, _, disk)) => {
+        Err((fault, source, disk)) => {
+            drop(source);
             tell_fault(fault, told);
             disk
         }
@@ -77,13 +93,18 @@ impl Stumbling {
     /// 1, fails.
     fn new(alloc: Global, bytes: &[u8], most: usize, failing: u32) -> Option<Self> {
         let mut disk = MemDisk::new(alloc, Vec::new(alloc));
-        disk.write_at(0, bytes).ok()?;
-        Some(Stumbling {
-            disk,
-            most,
-            calls: 0,
-            failing,
-        })
+        match disk.write_at(0, bytes) {
+            Ok(()) => Some(Stumbling {
+                disk,
+                most,
+                calls: 0,
+                failing,
+            }),
+            Err(_) => {
+                drop(disk);
+                None
+            }
+        }
     }
 
     /// The bytes of the file of which one call fails.

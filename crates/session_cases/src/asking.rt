@@ -31,8 +31,14 @@ pub enum Asked {
 
 /// Asks a session over a new program. The words are those behind the case's name.
 pub fn ask(alloc: Global, scene: &mut Scene, asked: Asked, words: &[Vec<u8>]) -> Option<()> {
-    let mut sitting = Sitting::new(alloc)?;
-    answer(alloc, &mut sitting, scene, asked, words)
+    match Sitting::new(alloc) {
+        Some(mut sitting) => {
+            let answered = answer(alloc, &mut sitting, scene, asked, words);
+            sitting.close();
+            answered
+        }
+        None => None,
+    }
 }
 
 /// Asks this session over a new program.
@@ -85,6 +91,7 @@ fn tell_listing(alloc: Global, session: &Session<Counts>, told: &mut Told)
     let mut listing = Told::new(alloc);
     session.listing(&mut listing);
     told.word_line(listing.as_bytes());
+    drop(listing);
 }
 
 /// Tells what painting writes for a session that is asked once this refusal is shown after the keys.
@@ -120,10 +127,15 @@ fn rescue(alloc: Global, sitting: &mut Sitting, scene: &mut Scene, fails: &[Vec<
     requires { IsReadyForKey sitting.old.session }
 {
     sitting.press_all(alloc, scene.keys.as_slice())?;
-    let mut files = failing_files(alloc, fails)?;
-    tell_rescue(&sitting.session, &mut files, &mut scene.told);
-    tell_content(&files, b"RESCUE", &mut scene.told);
-    Some(())
+    match failing_files(alloc, fails) {
+        Some(mut files) => {
+            tell_rescue(&sitting.session, &mut files, &mut scene.told);
+            tell_content(&files, b"RESCUE", &mut scene.told);
+            drop(files);
+            Some(())
+        }
+        None => None,
+    }
 }
 
 /// Tells what comes of the rescue for which a session is asked.

@@ -1,6 +1,6 @@
 //! Cases of files: those that runs of the editor find, what they hold, and what sessions tell of them.
 
-use crate::playing::{NOTHING, play, size_words};
+use crate::playing::{NOTHING, Played, play, size_words};
 use crate::scene::Scene;
 use case_script::{Told, numbers_of};
 use std::alloc::Global;
@@ -9,9 +9,14 @@ use synth_outside::{Files, FilesFault, MemFiles};
 
 /// `files N..`: there are no files; the N-th call of them fails, for each of these numbers, from 1.
 pub fn files(alloc: Global, scene: &mut Scene, fails: &[Vec<u8>]) -> Option<()> {
-    scene.files = failing_files(alloc, fails)?;
-    scene.told.line("none");
-    Some(())
+    match failing_files(alloc, fails) {
+        Some(files) => {
+            drop(mem::replace(&mut scene.files, files));
+            scene.told.line("none");
+            Some(())
+        }
+        None => None,
+    }
 }
 
 /// For a case of files: files that runs find, none yet, of which the calls of these numbers fail.
@@ -22,7 +27,9 @@ pub fn failing_files(alloc: Global, fails: &[Vec<u8>]) -> Option<MemFiles> {
 /// `file NAME` behind lines of text: puts a file that holds them.
 pub fn file_of_text(alloc: Global, scene: &mut Scene, name: &[u8]) -> Option<()> {
     let text = mem::replace(&mut scene.text, Vec::new(alloc));
-    file(scene, name, text.as_slice())
+    let put = file(scene, name, text.as_slice());
+    drop(text);
+    put
 }
 
 /// `file NAME CONTENT`: puts a file that holds this among those that runs of the editor find.
@@ -58,11 +65,27 @@ pub fn tell_content(files: &MemFiles, name: &[u8], told: &mut Told) {
 /// `told KEYS`: a run on a screen of 12 rows and 40 columns over the files at hand. It answers the status, and
 /// the messages that were shown in turn.
 pub fn told(alloc: Global, scene: &mut Scene, keys: &[u8]) -> Option<()> {
-    let words = size_words(alloc, b"12", b"40")?;
-    let played = play(alloc, words.as_slice(), keys, NOTHING, &mut scene.files)?;
-    scene.told.value_line(&played.status);
-    tell_messages(played.written(), &mut scene.told);
-    Some(())
+    match play_with_files(alloc, keys, &mut scene.files) {
+        Some(played) => {
+            scene.told.value_line(&played.status);
+            tell_messages(played.written(), &mut scene.told);
+            drop(played);
+            Some(())
+        }
+        None => None,
+    }
+}
+
+/// For a case of files, a run of the editor on these keys over the files, on a screen of 12 rows and 40 columns.
+fn play_with_files(alloc: Global, keys: &[u8], files: &mut MemFiles) -> Option<Played> {
+    match size_words(alloc, b"12", b"40") {
+        Some(words) => {
+            let played = play(alloc, words.as_slice(), keys, NOTHING, files);
+            drop(words);
+            played
+        }
+        None => None,
+    }
 }
 
 /// Where the row of messages, which a case of files tells, begins on a screen of 12 rows.

@@ -22,21 +22,33 @@ use std::io;
 use std::io::{BufRead, BufReader};
 
 fn main(rt: HostRuntime) -> io::Result<()> {
-    let alloc = rt.alloc();
-    let mut scene = Scene::new(alloc);
-    play_script(&rt, &mut scene)
+    let mut scene = Scene::new(rt.alloc());
+    let played = play_script(&rt, &mut scene);
+    drop(scene);
+    played
 }
 
 /// Plays the script of whole sessions that standard input has.
 fn play_script(rt: &HostRuntime, scene: &mut Scene) -> io::Result<()> {
     let alloc = rt.alloc();
     for line in BufReader::new(alloc, rt.reader())?.lines(alloc) {
-        let line = line?;
-        println!(rt; "{line}")?;
-        play_line(alloc, scene, line.as_bytes())?;
-        print_told(rt, &scene.told)?;
+        play_read(rt, scene, line?)?;
     }
     Ok(())
+}
+
+/// Plays a line of the script of whole sessions that was read.
+fn play_read(rt: &HostRuntime, scene: &mut Scene, line: String) -> io::Result<()> {
+    let played = print_played(rt, scene, line.as_str());
+    drop(line);
+    played
+}
+
+/// Plays a line of the script of whole sessions, and prints it and what is told of it.
+fn print_played(rt: &HostRuntime, scene: &mut Scene, line: &str) -> io::Result<()> {
+    println!(rt; "{line}")?;
+    play_line(rt.alloc(), scene, line.as_bytes())?;
+    print_told(rt, &scene.told)
 }
 
 /// Plays a line of the script of whole sessions: a heading, a line of text, or a case, whose answer is told.
@@ -61,8 +73,12 @@ fn play_line(alloc: Global, scene: &mut Scene, line: &[u8]) -> io::Result<()> {
 /// Plays one of the script's cases on whole sessions, if the line is one.
 fn play_case(alloc: Global, scene: &mut Scene, case: &[u8]) -> Option<()> {
     match words_of(alloc, case) {
-        Ok(Some(words)) => play_words(alloc, scene, words.as_slice()),
-        _ => None,
+        Ok(Some(words)) => {
+            let played = play_words(alloc, scene, words.as_slice());
+            drop(words);
+            played
+        }
+        Ok(None) | Err(_) => None,
     }
 }
 

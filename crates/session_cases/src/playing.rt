@@ -80,22 +80,59 @@ pub fn play(
     failing: Failing,
     files: &mut MemFiles,
 ) -> Option<Played> {
-    let mut keys = source_of(alloc, keys, failing.read)?;
-    let mut screen = MemSink::new(alloc, [failing.write].to_vec(alloc).ok()?);
+    match source_of(alloc, keys, failing.read) {
+        Some(keys) => play_from(alloc, words, keys, failing.write, files),
+        None => None,
+    }
+}
+
+/// Runs the editor on these words and the keys of the source, over these files, where a write of a screen fails.
+fn play_from(
+    alloc: Global,
+    words: &[String],
+    keys: MemSource,
+    failing: u64,
+    files: &mut MemFiles,
+) -> Option<Played> {
+    match [failing].to_vec(alloc) {
+        Ok(fails) => Some(play_over(alloc, words, keys, MemSink::new(alloc, fails), files)),
+        Err(_) => {
+            drop(keys);
+            None
+        }
+    }
+}
+
+/// Runs the editor on these words over the source of keys, the screen and the files.
+fn play_over(
+    alloc: Global,
+    words: &[String],
+    mut keys: MemSource,
+    mut screen: MemSink,
+    files: &mut MemFiles,
+) -> Played {
     let mut counts = Counts::default();
     let status = synth(alloc, words, &mut keys, &mut screen, files, &mut counts);
-    Some(Played {
+    Played {
         status,
         keys,
         screen,
         counts,
-    })
+    }
 }
 
 /// A source in memory of the keys of a run of the editor, one read of which fails.
 fn source_of(alloc: Global, keys: &[u8], failing: u64) -> Option<MemSource> {
-    let keys = keys.to_vec(alloc).ok()?;
-    Some(MemSource::new(keys, [failing].to_vec(alloc).ok()?))
+    match keys.to_vec(alloc) {
+        Ok(keys) => match [failing].to_vec(alloc) {
+            Ok(fails) => Some(MemSource::new(keys, fails)),
+            Err(_) => {
+                drop(keys);
+                None
+            }
+        },
+        Err(_) => None,
+    }
 }
 
 /// Runs the editor on these words and keys, without files.
@@ -106,22 +143,41 @@ pub fn play_alone(
     failing: Failing,
 ) -> Option<Played> {
     let mut files = MemFiles::new(alloc, Vec::new(alloc));
-    play(alloc, words, keys, failing, &mut files)
+    let played = play(alloc, words, keys, failing, &mut files);
+    drop(files);
+    played
 }
 
 /// Runs the editor on these keys on a screen of this size, without files.
 pub fn play_on(alloc: Global, rows: &[u8], cols: &[u8], keys: &[u8]) -> Option<Played> {
-    let words = size_words(alloc, rows, cols)?;
-    play_alone(alloc, words.as_slice(), keys, NOTHING)
+    match size_words(alloc, rows, cols) {
+        Some(words) => {
+            let played = play_alone(alloc, words.as_slice(), keys, NOTHING);
+            drop(words);
+            played
+        }
+        None => None,
+    }
 }
 
 /// The words of a run of the editor that ask for a screen of this size.
 pub fn size_words(alloc: Global, rows: &[u8], cols: &[u8]) -> Option<Vec<String>> {
     let mut texts = Vec::new(alloc);
-    for word in [b"--rows".as_slice(), rows, b"--cols", cols] {
-        push_word(alloc, &mut texts, word)?;
+    match push_size(alloc, &mut texts, rows, cols) {
+        Some(()) => Some(texts),
+        None => {
+            drop(texts);
+            None
+        }
     }
-    Some(texts)
+}
+
+/// Puts the words of a run of the editor in memory that ask for a screen of this size behind the others.
+fn push_size(alloc: Global, texts: &mut Vec<String>, rows: &[u8], cols: &[u8]) -> Option<()> {
+    for word in [b"--rows".as_slice(), rows, b"--cols", cols] {
+        push_word(alloc, texts, word)?;
+    }
+    Some(())
 }
 
 /// Puts a word with which a run of the editor in memory is started behind the others, if it is a text.

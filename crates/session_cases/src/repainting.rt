@@ -65,9 +65,29 @@ pub fn compare_screen(
 /// Whether a terminal shows the same of screens that are painted over one another, by the first bytes, as of
 /// screens that are painted anew, by the others.
 fn show_the_same(alloc: Global, bytes: &[u8], others: &[u8]) -> Option<bool> {
-    let terminal = terminal_of(alloc, (12, 40), bytes)?;
-    let other = terminal_of(alloc, (12, 40), others)?;
-    Some(terminal.cursor() == other.cursor() && have_the_same_rows(&terminal, &other))
+    match terminal_of(alloc, (12, 40), bytes) {
+        Some(terminal) => {
+            let same = shows_the_same(alloc, &terminal, others);
+            drop(terminal);
+            same
+        }
+        None => None,
+    }
+}
+
+/// Whether a terminal on which screens were painted over one another shows the same as one on which these bytes paint
+/// anew.
+fn shows_the_same(alloc: Global, terminal: &Terminal, others: &[u8]) -> Option<bool>
+    requires { terminal.now.rows ≡ 12 }
+{
+    match terminal_of(alloc, (12, 40), others) {
+        Some(other) => {
+            let same = terminal.cursor() == other.cursor() && have_the_same_rows(terminal, &other);
+            drop(other);
+            Some(same)
+        }
+        None => None,
+    }
 }
 
 /// Whether two terminals of 12 rows, painted over or anew, have the same cells.

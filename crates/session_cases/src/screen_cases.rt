@@ -14,8 +14,14 @@ use std::alloc::Global;
 /// size it has 12 rows and 40 columns. It answers the status, the place of the cursor, and the rows.
 pub fn screen(alloc: Global, scene: &mut Scene, rows: &[u8], cols: &[u8]) -> Option<()> {
     let size = size_of(rows, cols)?;
-    let played = play_on(alloc, rows, cols, scene.keys.as_slice())?;
-    tell_screen(alloc, size, &played, &mut scene.told)
+    match play_on(alloc, rows, cols, scene.keys.as_slice()) {
+        Some(played) => {
+            let told = tell_screen(alloc, size, &played, &mut scene.told);
+            drop(played);
+            told
+        }
+        None => None,
+    }
 }
 
 /// Tells how a run ended, and what a terminal of this size shows of it.
@@ -25,10 +31,15 @@ fn tell_screen(alloc: Global, size: (u16, u16), played: &Played, told: &mut Told
     requires least_cols { FEWEST_COLS ≤ size.1 }
     requires most_cols { size.1 ≤ MOST_COLS }
 {
-    let terminal = terminal_of(alloc, size, played.written())?;
-    told.value(&played.status);
-    tell_terminal(&terminal, size.0, told);
-    Some(())
+    match terminal_of(alloc, size, played.written()) {
+        Some(terminal) => {
+            told.value(&played.status);
+            tell_terminal(&terminal, size.0, told);
+            drop(terminal);
+            Some(())
+        }
+        None => None,
+    }
 }
 
 /// The size that these words of a case of screens ask for, if screens have it.
@@ -64,9 +75,13 @@ pub fn terminal_of(alloc: Global, size: (u16, u16), bytes: &[u8]) -> Option<Term
     requires most_cols { size.1 ≤ MOST_COLS }
     ensures { IfSome result (λ terminal. terminal.rows ≡ size.0) }
 {
-    let mut terminal = Terminal::new(alloc, size.0, size.1).ok()?;
-    terminal.take(bytes);
-    Some(terminal)
+    match Terminal::new(alloc, size.0, size.1) {
+        Ok(mut terminal) => {
+            terminal.take(bytes);
+            Some(terminal)
+        }
+        Err(_) => None,
+    }
 }
 
 /// Tells what a terminal shows of a run: the cursor's place, and the rows, a row a line.

@@ -30,14 +30,29 @@ impl Sitting {
     pub fn new(alloc: Global) -> Option<Sitting>
         ensures { IfSome result (λ sitting. IsReadyForKey sitting.session) }
     {
-        let session = opened(alloc, ScreenSize::new(12, 40))?;
-        Some(Sitting {
+        match opened(alloc, ScreenSize::new(12, 40)) {
+            Some(session) => Some(Sitting {
+                session,
+                files: MemFiles::new(alloc, Vec::new(alloc)),
+                reader: KeyReader::new(),
+                answer: None,
+                screen: MemSink::new(alloc, Vec::new(alloc)),
+            }),
+            None => None,
+        }
+    }
+
+    /// Closes the sitting's session, and lets go of all else.
+    pub fn close(self) {
+        let Sitting {
             session,
-            files: MemFiles::new(alloc, Vec::new(alloc)),
-            reader: KeyReader::new(),
-            answer: None,
-            screen: MemSink::new(alloc, Vec::new(alloc)),
-        })
+            files,
+            screen,
+            ..
+        } = self;
+        session.close();
+        drop(files);
+        drop(screen);
     }
 
     /// Presses the keys of these bytes in the sitting, the last of which end there.
@@ -100,7 +115,10 @@ impl Sitting {
 fn opened(alloc: Global, size: ScreenSize) -> Option<Session<Counts>>
     ensures { IfSome result IsReadyForKey }
 {
-    Session::open(alloc, size, None, Vec::new(alloc), &mut Counts::default()).ok()
+    match Session::open(alloc, size, None, Vec::new(alloc), &mut Counts::default()) {
+        Ok(session) => Some(session),
+        Err(_) => None,
+    }
 }
 
 /// Presses the key in the session of a sitting, and gives what it answers.
