@@ -55,6 +55,11 @@ turned_test m n = by (m == n) (n == m) refl refl
     by false true e f = absurd (false≢true (sym e ∙ eq-eqb m n (sym (eqb-true n m f))))
     by false false e f = refl
 
+-- a call doesn't pass a run on
+call_stays : (kind : NodeKind) → is_call kind ≡ true → passes_in kind ≡ false
+call_stays (NodeKind.Filled Template.Call) is = refl
+call_stays other is = absurd (false≢true is)
+
 -- ---- jumps, which end no step
 
 -- it ends no step
@@ -302,20 +307,22 @@ module _ (q : PlainPlace) where
   -- what is found of them
   abbrev passed_if : (passes call : Bool) → PlainLocated → Option ℕ
   passed_if passes call found =
-      if passes then (if q.point == 0 then Some found.start else None)
+      if passes && (q.point == 0) then Some found.start
       else (if call && (q.point == 1) then Some (found.start + kept_length found.node) else None)
 
   own_passed : (found : PlainLocated) → (found.node.own.slot == q.slot) ≡ true
       → find place_cmp (place_of q) (node_address (located_node_span found)) ≡ passed_address found q.point
-  own_passed found same = by (passes_in found.node.own.kind) (is_call found.node.own.kind)
+  own_passed found same = by (passes_in found.node.own.kind) (is_call found.node.own.kind) (call_stays found.node.own.kind)
     where
       tied : (p : ℕ) → eq_by_cmp place_cmp (place_of q) (place_of (place_at found.node.own.slot p)) ≡ (q.point == p)
       tied p = place_ties q (place_at found.node.own.slot p) ∙ ap (λ (b : Bool). b && (p == q.point)) same ∙ turned_test p q.point
 
-      by : (passes call : Bool) → find place_cmp (place_of q) (entries_if passes call (located_node_span found)) ≡ passed_if passes call found
-      by true call = ap (λ (b : Bool). cond b (Some found.start) None) (tied 0)
-      by false true = ap (λ (b : Bool). cond b (Some (found.start + kept_length found.node)) None) (tied 1)
-      by false false = refl
+      by : (passes call : Bool) → (call ≡ true → passes ≡ false)
+          → find place_cmp (place_of q) (entries_if passes call (located_node_span found)) ≡ passed_if passes call found
+      by true true stays = absurd (false≢true (sym (stays refl)))
+      by true false stays = ap (λ (b : Bool). cond b (Some found.start) None) (tied 0)
+      by false true stays = ap (λ (b : Bool). cond b (Some (found.start + kept_length found.node)) None) (tied 1)
+      by false false stays = refl
 
   other_passed : (node : NodeSpan) → (node.slot.0 == q.slot) ≡ false → find place_cmp (place_of q) (node_address node) ≡ None
   other_passed node other = by (passes_in node.kind) (is_call node.kind)

@@ -11,7 +11,7 @@ use Rattle.template_tree.specs.declared.change.What.{What}
 use Rattle.template_tree.specs.Checks.Marks.{Marks, offences}
 use Rattle.template_tree.specs.Edits.Edit.{changed_in, procedure_of}
 use Rattle.template_tree.specs.Laws.CheckLaws.{ChecksIgnoreRoom}
-use Rattle.template_tree.specs.Positions.Place.{PlainPlace, Site, begin, end_at, in_turn, inner_end, is_statement, passes_in, place_at, site, site_among}
+use Rattle.template_tree.specs.Positions.Place.{PlainPlace, Site, begin, begins_run, end_at, in_turn, inner_end, passes_in, place_at, site, site_among}
 use Rattle.template_tree.specs.Programs.PlainTree.{Forest, PlainNode, forest, nodes, roomless, roomless_node}
 use Rattle.template_tree.specs.Programs.Program.{sort_of}
 use Rattle.template_tree.specs.Programs.Slots.{times}
@@ -28,7 +28,7 @@ begin_roomless : (program : Forest) (behind : PlainPlace) → begin (roomless pr
 begin_roomless Forest.nil behind = refl
 begin_roomless (Forest.cons label inner rest) behind =
     λ i.
-    if is_statement (sort_of label.kind)
+    if begins_run (sort_of label.kind)
     then (if passes_in label.kind then begin_roomless inner behind i else place_at label.slot 0)
     else begin_roomless rest behind i
 

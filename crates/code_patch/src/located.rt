@@ -173,11 +173,8 @@ impl<W> Located<'_, W> {
         ensures { result ≡ passed_address (plain_located self.now) point.0 }
     {
         let kind = self.node.kind();
-        if passes_in(kind) {
-            if point.0 == 0 {
-                return Some(self.start);
-            }
-            return None;
+        if passes_in(kind) && point.0 == 0 {
+            return Some(self.start);
         }
         if is_call(kind) && point.0 == 1 {
             return Some(self.start + self.node.length());

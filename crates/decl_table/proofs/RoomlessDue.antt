@@ -9,7 +9,7 @@ use Rattle.template_tree.specs.declared.change.What.{What}
 use Rattle.template_tree.specs.Checks.Environment.{Items, Sig, item_named, procedure_at}
 use Rattle.template_tree.specs.Checks.Mention.{mentions, phrase_at}
 use Rattle.template_tree.specs.Laws.CheckLaws.{CheckAlike}
-use Rattle.template_tree.specs.Positions.Place.{PlainPlace, Site, begin, end_at, in_turn, inner_end, is_statement, passes_in, place_at, site, site_among}
+use Rattle.template_tree.specs.Positions.Place.{PlainPlace, Site, begin, begins_run, end_at, in_turn, inner_end, passes_in, place_at, site, site_among}
 use Rattle.template_tree.specs.Programs.Part.{part_at}
 use Rattle.template_tree.specs.Programs.PlainTree.{Forest, Label, PlainNode, roomless, roomless_node}
 use Rattle.template_tree.specs.Programs.Program.{sort_of}
@@ -20,7 +20,7 @@ use Rattle.decl_table.specs.Due.{AreDue, IsAffected, IsDue, all_list_places, bin
 begin_roomless : (items : Forest) (behind : PlainPlace) → begin (roomless items) behind ≡ begin items behind
 begin_roomless Forest.nil behind = refl
 begin_roomless (Forest.cons label inner rest) behind =
-    λ i. if is_statement (sort_of label.kind)
+    λ i. if begins_run (sort_of label.kind)
     then (if passes_in label.kind then begin_roomless inner behind i else place_at label.slot 0)
     else begin_roomless rest behind i
 

@@ -1,5 +1,5 @@
 -- The law `bodies_begin`: what stands inside a node begins with the step at which a run begins that comes to it.
--- Declarations before it have no code.
+-- What a run passes over before that has no code.
 use Rattle.std.proofs.Common.{◌≡◌, ℕ, ◌+◌, Bool, true, false, ◌⊎◌, inl, inr, List, [], ◌∷◌, ◌++◌, length, Some, refl, ap, sym, subst, ◌∙◌, arith}
 use Rattle.std.specs.Prelude.{◌||◌, flat_map, if◌then◌else◌, is_some, slice_get, take}
 use Rattle.std.specs.FinMap.{get-from_entries}
@@ -13,7 +13,7 @@ use Rattle.plcs_grammar.specs.declared.node_kind.NodeKind.{NodeKind}
 use Rattle.plcs_grammar.specs.declared.node_kind.Sort.{Sort}
 use Rattle.plcs_grammar.specs.declared.template.Template.{Template}
 use Rattle.plcs_grammar.specs.Template.{PlainSection, row_of}
-use Rattle.template_tree.specs.Positions.Place.{PlainPlace, begin, is_statement, passes_in, place_at}
+use Rattle.template_tree.specs.Positions.Place.{PlainPlace, begin, begins_run, passes_in, place_at}
 use Rattle.template_tree.specs.Programs.PlainTree.{Forest, Label}
 use Rattle.template_tree.specs.Programs.Program.{AreNodes, Fill, IsNode, sort_of, sorts}
 use Rattle.template_tree.specs.Programs.Part.{part_at}
@@ -22,11 +22,11 @@ use Rattle.plcs_code.specs.Gen.{code_around, codes_around, codes_joined, has_cod
 use Rattle.plcs_code.specs.Landing.{BodiesBegin, SecondBodiesBegin, length_before}
 use Rattle.plcs_code.specs.Pieces.{first_length, kind_jumps, other_lengths, pieces, suspension}
 use Rattle.plcs_code.specs.PlainInstr.{PlainInstr}
-use Rattle.plcs_code.proofs.BegunCode.{StartsWithStatement, begin_read, node_begins, passed_read, stands_read}
+use Rattle.plcs_code.proofs.BegunCode.{FirstBegins, begin_read, node_begins, passed_read, stands_read}
 use Rattle.plcs_code.proofs.FoundNodes.{around_nothing, inner_jumps, inner_stands, inner_start, node_at_site, node_long, own_node}
 use Rattle.plcs_code.proofs.FoundSites.{site_inner, site_node}
 use Rattle.plcs_code.proofs.HeldSpans.{first_span}
-use Rattle.plcs_code.proofs.LandedEnds.{AreBodies, Listed, declaration_kind, if_else_sorts, if_sorts, kind_form, none_between, none_inside}
+use Rattle.plcs_code.proofs.LandedEnds.{AreBodies, Listed, passed_over_codeless, if_else_sorts, if_sorts, kind_form, none_between, none_inside}
 use Rattle.plcs_code.proofs.StoodCode.{StandsAt, first_stands, second_stands}
 
 or_false : (one other : Bool) → one ≡ false → (one || other) ≡ true → other ≡ true
@@ -34,25 +34,24 @@ or_false true other e both = absurd (false≢true (sym e))
 or_false false other e both = both
 
 module _ (marks : MarkMap) (items : ItemMap) (instrs : List PlainInstr) where
-  -- nodes with a statement among them, declarations before it, begin with the step at which a run begins that comes to
-  -- them
+  -- nodes in order, at one of which a run begins, begin with the step at which a run begins that comes to them
   nodes_read : (start : ℕ) (nodes : Forest) (behind : PlainPlace) → AreNodes nodes → AreBodies (sorts nodes)
-      → list_any is_statement (sorts nodes) ≡ true → StandsAt instrs start (codes_joined (node_codes marks items nodes))
+      → list_any begins_run (sorts nodes) ≡ true → StandsAt instrs start (codes_joined (node_codes marks items nodes))
       → slice_get instrs start ≡ Some (PlainInstr.place (begin nodes behind))
   nodes_read start Forest.nil behind are bodies some stands = absurd (false≢true some)
   nodes_read start (Forest.cons label inner rest) behind are bodies some stands =
-      by (is_statement (sort_of label.kind)) refl (passes_in label.kind) refl
+      by (begins_run (sort_of label.kind)) refl (passes_in label.kind) refl
       (λ none.
       let code = code_around marks items label (node_codes marks items inner) in
-      let long : length code ≡ 0 = declaration_kind marks items label inner label.kind refl are.0.inner bodies.0 none in
+      let long : length code ≡ 0 = passed_over_codeless marks items label inner label.kind refl are.0.inner bodies.0 none in
       nodes_read start rest behind are.2 bodies.1
-      (or_false (is_statement (sort_of label.kind)) (list_any is_statement (sorts rest)) none some)
+      (or_false (begins_run (sort_of label.kind)) (list_any begins_run (sorts rest)) none some)
       (second_stands instrs start start code (codes_joined (node_codes marks items rest)) (omega (arith, long)) stands))
     where
-      by : (statement : Bool) → is_statement (sort_of label.kind) ≡ statement → (passes : Bool) → passes_in label.kind ≡ passes
-          → (is_statement (sort_of label.kind) ≡ false → slice_get instrs start ≡ Some (PlainInstr.place (begin rest behind)))
+      by : (begins : Bool) → begins_run (sort_of label.kind) ≡ begins → (passes : Bool) → passes_in label.kind ≡ passes
+          → (begins_run (sort_of label.kind) ≡ false → slice_get instrs start ≡ Some (PlainInstr.place (begin rest behind)))
           → slice_get instrs start
-          ≡ Some (PlainInstr.place (if statement then (if passes then begin inner behind else place_at label.slot 0) else begin rest behind))
+          ≡ Some (PlainInstr.place (if begins then (if passes then begin inner behind else place_at label.slot 0) else begin rest behind))
       by false is passes pass later = later is
       by true is true pass later =
           passed_read marks items instrs start label inner behind are.0.inner are.1 pass
@@ -70,7 +69,7 @@ module _ (marks : MarkMap) (items : ItemMap) (instrs : List PlainInstr) where
       × (slice_get instrs (inner_start marks items start label inner) ≡ Some (PlainInstr.place (begin inner behind)))
 
   inner_read : (start : ℕ) (label : Label) (inner : Forest) (behind : PlainPlace) → IsNode label (sorts inner) → AreNodes inner
-      → list_any is_statement (sorts inner) ≡ true → StandsAt instrs start (code_around marks items label (node_codes marks items inner))
+      → list_any begins_run (sorts inner) ≡ true → StandsAt instrs start (code_around marks items label (node_codes marks items inner))
       → Begins start label inner behind
   inner_read start label inner behind node are some stands = by (kind_form label.kind)
     where
@@ -80,7 +79,7 @@ module _ (marks : MarkMap) (items : ItemMap) (instrs : List PlainInstr) where
       told : StandsAt instrs (inner_start marks items start label inner) (codes_around (option_to_list (inner_jumps marks items label inner).between) (node_codes marks items inner))
       told = inner_stands marks items instrs start label inner stands
 
-      starts : StartsWithStatement (sorts inner) → slice_get instrs (inner_start marks items start label inner) ≡ Some (PlainInstr.place (begin inner behind))
+      starts : FirstBegins (sorts inner) → slice_get instrs (inner_start marks items start label inner) ≡ Some (PlainInstr.place (begin inner behind))
       starts first =
           begin_read marks items instrs (inner_start marks items start label inner) (option_to_list (inner_jumps marks items label inner).between) inner behind are first told
 
@@ -88,7 +87,7 @@ module _ (marks : MarkMap) (items : ItemMap) (instrs : List PlainInstr) where
           → Begins start label inner behind
       by (inl lone) =
           let none : inner ≡ Forest.nil = none_inside inner (subst (λ (l : List PlainSection). Fill l (sorts inner)) lone node.inner) in
-          absurd (false≢true (ap (λ (f : Forest). list_any is_statement (sorts f)) (sym none) ∙ some))
+          absurd (false≢true (ap (λ (f : Forest). list_any begins_run (sorts f)) (sym none) ∙ some))
       by (inr (inl listed)) =
           let nothing : option_to_list (inner_jumps marks items label inner).between ≡ [] =
           ap option_to_list (none_between marks items label (node_lengths marks items inner) listed.joins) in
@@ -100,11 +99,11 @@ module _ (marks : MarkMap) (items : ItemMap) (instrs : List PlainInstr) where
           )
       by (inr (inr (inl kind))) = (
         ap has_code kind,
-        starts (subst StartsWithStatement (sym (if_sorts (sorts inner) (subst (λ (k : NodeKind). Fill (row_of k).sections (sorts inner)) kind node.inner))) refl),
+        starts (subst FirstBegins (sym (if_sorts (sorts inner) (subst (λ (k : NodeKind). Fill (row_of k).sections (sorts inner)) kind node.inner))) refl),
       )
       by (inr (inr (inr kind))) = (
         ap has_code kind,
-        starts (subst StartsWithStatement (sym (if_else_sorts (sorts inner) (subst (λ (k : NodeKind). Fill (row_of k).sections (sorts inner)) kind node.inner))) refl),
+        starts (subst FirstBegins (sym (if_else_sorts (sorts inner) (subst (λ (k : NodeKind). Fill (row_of k).sections (sorts inner)) kind node.inner))) refl),
       )
 
 pub bodies_begin : BodiesBegin
@@ -123,9 +122,10 @@ bodies_begin marks items program slot found behind is e some =
       ap (slice_get instrs) same ∙ begins.1,
     )
 
--- the sorts of two statements, the second alone
-second_starts : (sort : Sort) (others : List Sort) → sort ∷ others ≡ Sort.Statement ∷ (Sort.Statement ∷ []) → StartsWithStatement others
-second_starts sort others e = subst StartsWithStatement (sym (ap behind e)) refl
+-- of two sorts the second alone, at which a run begins
+second_starts : (sort : Sort) (others : List Sort) (one other : Sort) → begins_run other ≡ true → sort ∷ others ≡ one ∷ (other ∷ [])
+    → FirstBegins others
+second_starts sort others one other begins e = subst FirstBegins (sym (ap behind e)) begins
   where
     behind : List Sort → List Sort
     behind [] = []
@@ -161,5 +161,5 @@ second_bodies_begin marks items program slot found first within rest behind is e
       node.length,
       get-from_entries nat_cmp_total (flat_map span_by_slot (node_spans marks items 0 0 program)) slot
           ∙ first_span slot (node_spans marks items 0 0 program) node there.1 (ap has_code kind),
-      begin_read marks items instrs target [] rest behind inner_are.2 (second_starts (sort_of first.kind) (sorts rest) two) last,
+      begin_read marks items instrs target [] rest behind inner_are.2 (second_starts (sort_of first.kind) (sorts rest) Sort.Statement Sort.Statement refl two) last,
     )

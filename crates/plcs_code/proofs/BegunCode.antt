@@ -1,5 +1,5 @@
--- Where code begins. The code of each statement begins with the step at its start, but for a group and a comment: these
--- begin with the code of their first item, at which a run begins that comes to them.
+-- Where code begins. The code of each node at which a run begins starts with the step at its start, but for what passes
+-- a run on: this starts with the code of its first item, at which a run begins that comes to it.
 use Rattle.std.proofs.Common.{◌≡◌, ℕ, ◌≤◌, ◌<◌, Bool, true, false, List, [], ◌∷◌, ◌++◌, length, map, take, Option, Some, None, refl, ap, sym, subst, ◌∙◌, arith}
 use Rattle.std.specs.Prelude.{if◌then◌else◌, is_some, slice_get, slice_index_or}
 use Rattle.std.specs.Option.{option_to_list}
@@ -11,9 +11,9 @@ use Rattle.plcs_grammar.specs.declared.node_kind.NodeKind.{NodeKind}
 use Rattle.plcs_grammar.specs.declared.node_kind.Sort.{Sort}
 use Rattle.plcs_grammar.specs.declared.template.Template.{Template}
 use Rattle.plcs_grammar.specs.PlainPhrase.{PlainPhrase}
-use Rattle.plcs_grammar.specs.Template.{list_of, row_of}
+use Rattle.plcs_grammar.specs.Template.{PlainSection, list_of, row_of}
 use Rattle.template_tree.specs.Programs.Part.{part_at}
-use Rattle.template_tree.specs.Positions.Place.{PlainPlace, begin, is_statement, passes_in, place_at}
+use Rattle.template_tree.specs.Positions.Place.{PlainPlace, begin, begins_run, passes_in, place_at}
 use Rattle.template_tree.specs.Programs.PlainTree.{Forest, Label}
 use Rattle.template_tree.specs.Programs.Program.{AreNodes, AreParts, Fill, parts_of, sort_of, sorts}
 use Rattle.template_tree.specs.Checks.ProgramMaps.{items_in}
@@ -50,37 +50,37 @@ get_begins marks slot (Some phrase ∷ []) (listed_part list) =
     listed_begins slot (suspension marks slot (Some phrase ∷ [])) phrase list
 
 template_begins : (marks : MarkMap) (label : Label) (items : List Declared) (one : Option PlainInstr) (template : Template)
-    → AreParts (parts_of (row_of (NodeKind.Filled template)).line) label.parts → is_statement (sort_of (NodeKind.Filled template)) ≡ true
+    → AreParts (parts_of (row_of (NodeKind.Filled template)).line) label.parts → begins_run (sort_of (NodeKind.Filled template)) ≡ true
     → passes_in (NodeKind.Filled template) ≡ false
     → BeginsAt label.slot (template_pieces label.slot (suspension marks label.slot label.parts) one label.parts items template).before
-template_begins marks label items one Template.If are statement stays = (_, refl)
-template_begins marks label items one Template.IfElse are statement stays = (_, refl)
-template_begins marks label items one Template.While are statement stays = (_, refl)
-template_begins marks label items one Template.For are statement stays = (_, refl)
-template_begins marks label items one Template.Get are statement stays = get_begins marks label.slot label.parts (get_parts label.parts are)
-template_begins marks label items one Template.Put are statement stays = (_, refl)
-template_begins marks label items one Template.PutSkip are statement stays = (_, refl)
-template_begins marks label items one Template.Call are statement stays = (_, refl)
-template_begins marks label items one Template.Return are statement stays = (_, refl)
-template_begins marks label items one Template.Group are statement stays = absurd (false≢true (sym stays))
-template_begins marks label items one Template.Comment are statement stays = absurd (false≢true (sym stays))
-template_begins marks label items one other are statement stays = absurd (false≢true statement)
+template_begins marks label items one Template.If are begins stays = (_, refl)
+template_begins marks label items one Template.IfElse are begins stays = (_, refl)
+template_begins marks label items one Template.While are begins stays = (_, refl)
+template_begins marks label items one Template.For are begins stays = (_, refl)
+template_begins marks label items one Template.Get are begins stays = get_begins marks label.slot label.parts (get_parts label.parts are)
+template_begins marks label items one Template.Put are begins stays = (_, refl)
+template_begins marks label items one Template.PutSkip are begins stays = (_, refl)
+template_begins marks label items one Template.Call are begins stays = (_, refl)
+template_begins marks label items one Template.Return are begins stays = (_, refl)
+template_begins marks label items one Template.Group are begins stays = absurd (false≢true (sym stays))
+template_begins marks label items one Template.Comment are begins stays = absurd (false≢true (sym stays))
+template_begins marks label items one other are begins stays = absurd (false≢true begins)
 
 kind_begins : (marks : MarkMap) (label : Label) (items : List Declared) (one : Option PlainInstr) (kind : NodeKind)
-    → AreParts (parts_of (row_of kind).line) label.parts → is_statement (sort_of kind) ≡ true → passes_in kind ≡ false
+    → AreParts (parts_of (row_of kind).line) label.parts → begins_run (sort_of kind) ≡ true → passes_in kind ≡ false
     → BeginsAt label.slot (kind_pieces label.slot (suspension marks label.slot label.parts) one label.parts items kind).before
-kind_begins marks label items one NodeKind.StatementHole are statement stays = (_, refl)
-kind_begins marks label items one NodeKind.Assign are statement stays = (_, refl)
-kind_begins marks label items one (NodeKind.Filled template) are statement stays =
-    template_begins marks label items one template are statement stays
-kind_begins marks label items one other are statement stays = absurd (false≢true statement)
+kind_begins marks label items one NodeKind.StatementHole are begins stays = (_, refl)
+kind_begins marks label items one NodeKind.Assign are begins stays = (_, refl)
+kind_begins marks label items one (NodeKind.Filled template) are begins stays =
+    template_begins marks label items one template are begins stays
+kind_begins marks label items one other are begins stays = absurd (false≢true begins)
 
--- the code of a statement that doesn't pass a run on begins with the step at its start
+-- the code of a node at which a run begins, and which doesn't pass it on, begins with the step at its start
 pub node_begins : (marks : MarkMap) (items : ItemMap) (label : Label) (codes : List (List PlainInstr))
-    → AreParts (parts_of (row_of label.kind).line) label.parts → is_statement (sort_of label.kind) ≡ true → passes_in label.kind ≡ false
+    → AreParts (parts_of (row_of label.kind).line) label.parts → begins_run (sort_of label.kind) ≡ true → passes_in label.kind ≡ false
     → BeginsAt label.slot (code_around marks items label codes)
-node_begins marks items label codes are statement stays =
-    let own = kind_begins marks label (items_in items label.slot) (suspension marks label.slot (take 1 label.parts)) label.kind are statement stays in
+node_begins marks items label codes are begins stays =
+    let own = kind_begins marks label (items_in items label.slot) (suspension marks label.slot (take 1 label.parts)) label.kind are begins stays in
     let around = jumps marks items label (map length codes) in
     let rest =
     option_to_list around.ahead
@@ -124,28 +124,30 @@ passed_start marks items start label inner is =
 
 -- ---- the first of nodes
 
--- the first of the sorts is that of statements
-abbrev pub StartsWithStatement : List Sort → Type 0
-StartsWithStatement [] = ⊥
-StartsWithStatement (sort ∷ others) = sort ≡ Sort.Statement
+-- a run begins at the first of the sorts
+abbrev pub FirstBegins : List Sort → Type 0
+FirstBegins [] = ⊥
+FirstBegins (sort ∷ others) = begins_run sort ≡ true
 
--- a list of statements begins with one
-list_starts : (own others : List Sort) → 1 ≤ length own
-    → ((k : ℕ) (d : Sort) → k < length own → slice_index_or own k d ≡ Sort.Statement) → StartsWithStatement (own ++ others)
-list_starts [] others some all = absurd (omega (arith, some))
-list_starts (sort ∷ own) others some all = all 0 Sort.Statement (omega (arith, some))
+-- in a list of one such sort it begins at the first
+list_starts : (sort : Sort) (own others : List Sort) → begins_run sort ≡ true → 1 ≤ length own
+    → ((k : ℕ) (d : Sort) → k < length own → slice_index_or own k d ≡ sort) → FirstBegins (own ++ others)
+list_starts sort [] others begins some all = absurd (omega (arith, some))
+list_starts sort (first ∷ own) others begins some all = ap begins_run (all 0 sort (omega (arith, some))) ∙ begins
 
-filled_starts : (items : List Sort) → Fill (list_of Sort.Statement ∷ []) items → StartsWithStatement items
-filled_starts items (own, others, same, are, none) = subst StartsWithStatement (sym same) (list_starts own others are.0 are.1)
+filled_starts : (sort : Sort) (sections : List PlainSection) (items : List Sort) → begins_run sort ≡ true → Fill (list_of sort ∷ sections) items
+    → FirstBegins items
+filled_starts sort sections items begins (own, others, same, are, more) =
+    subst FirstBegins (sym same) (list_starts sort own others begins are.0 are.1)
 
 template_starts : (template : Template) (items : List Sort) → passes_in (NodeKind.Filled template) ≡ true
-    → Fill (row_of (NodeKind.Filled template)).sections items → StartsWithStatement items
-template_starts Template.Group items e fill = filled_starts items fill
-template_starts Template.Comment items e fill = filled_starts items fill
+    → Fill (row_of (NodeKind.Filled template)).sections items → FirstBegins items
+template_starts Template.Group items e fill = filled_starts Sort.Statement [] items refl fill
+template_starts Template.Comment items e fill = filled_starts Sort.Statement [] items refl fill
 template_starts other items e fill = absurd (false≢true e)
 
--- what passes a run on to its first item has a statement there
-pub kind_starts : (kind : NodeKind) (items : List Sort) → passes_in kind ≡ true → Fill (row_of kind).sections items → StartsWithStatement items
+-- what passes a run on to its first item has one there at which a run begins
+pub kind_starts : (kind : NodeKind) (items : List Sort) → passes_in kind ≡ true → Fill (row_of kind).sections items → FirstBegins items
 kind_starts (NodeKind.Filled template) items e fill = template_starts template items e fill
 kind_starts other items e fill = absurd (false≢true e)
 
@@ -163,19 +165,18 @@ stands_read instrs address instr code stands =
     ∙ ap (λ (all : List PlainInstr). slice_get all (length stands.front)) stands.is
     ∙ read_behind stands.front instr (code ++ stands.back)
 
--- where the code of nodes stands that begin with a statement, a run that comes to them begins
+-- where the code of nodes stands, at the first of which a run begins, a run that comes to them begins
 pub begin_read : (marks : MarkMap) (items : ItemMap) (instrs : List PlainInstr) (start : ℕ) (between : List PlainInstr) (nodes : Forest) (behind : PlainPlace)
-    → AreNodes nodes → StartsWithStatement (sorts nodes) → StandsAt instrs start (codes_around between (node_codes marks items nodes))
+    → AreNodes nodes → FirstBegins (sorts nodes) → StandsAt instrs start (codes_around between (node_codes marks items nodes))
     → slice_get instrs start ≡ Some (PlainInstr.place (begin nodes behind))
 begin_read marks items instrs start between Forest.nil behind are starts stands = absurd starts
 begin_read marks items instrs start between (Forest.cons label inner rest) behind are starts stands =
     let code = code_around marks items label (node_codes marks items inner) in
     let own : StandsAt instrs start code = first_stands instrs start code (between ++ codes_joined (node_codes marks items rest)) stands in
-    let statement : is_statement (sort_of label.kind) ≡ true = ap is_statement starts in
     by (passes_in label.kind) refl own
     (λ is. begin_read marks items instrs (inner_start marks items start label inner) (option_to_list (inner_jumps marks items label inner).between) inner behind are.1
     (kind_starts label.kind (sorts inner) is are.0.inner) (inner_stands marks items instrs start label inner own))
-    ∙ ap (λ (b : Bool). Some (PlainInstr.place (if b then (if passes_in label.kind then begin inner behind else place_at label.slot 0) else begin rest behind))) (sym statement)
+    ∙ ap (λ (b : Bool). Some (PlainInstr.place (if b then (if passes_in label.kind then begin inner behind else place_at label.slot 0) else begin rest behind))) (sym starts)
   where
     by : (passes : Bool) → passes_in label.kind ≡ passes
         → StandsAt instrs start (code_around marks items label (node_codes marks items inner))
@@ -183,7 +184,7 @@ begin_read marks items instrs start between (Forest.cons label inner rest) behin
         → slice_get instrs start ≡ Some (PlainInstr.place (if passes then begin inner behind else place_at label.slot 0))
     by true is own inside = ap (slice_get instrs) (sym (passed_start marks items start label inner is)) ∙ inside is
     by false stays own inside =
-        let begins = node_begins marks items label (node_codes marks items inner) are.0.parts (ap is_statement starts) stays in
+        let begins = node_begins marks items label (node_codes marks items inner) are.0.parts starts stays in
         stands_read instrs start (PlainInstr.place (place_at label.slot 0)) begins.0 (subst (StandsAt instrs start) begins.1 own)
 
 -- where the code of what passes a run on stands, a run that comes to it begins

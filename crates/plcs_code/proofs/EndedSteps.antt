@@ -19,7 +19,7 @@ use Rattle.plcs_grammar.specs.Token.{Token}
 use Rattle.plcs_grammar.specs.PhraseForm.{Form}
 use Rattle.template_tree.specs.Checks.Environment.{parameters_given}
 use Rattle.template_tree.specs.Programs.Part.{part_at}
-use Rattle.template_tree.specs.Positions.Place.{PlainPlace, has_point, is_statement, item_count, passes_in}
+use Rattle.template_tree.specs.Positions.Place.{PlainPlace, has_point, has_start, item_count, passes_in}
 use Rattle.template_tree.specs.Programs.PlainTree.{Label}
 use Rattle.template_tree.specs.Programs.Program.{AreParts, parts_of, sort_of}
 use Rattle.plcs_code.specs.CodeLaws.{is_marked_first}
@@ -94,7 +94,7 @@ KindPlace all one label items kind q =
 -- the place is one that a run has at a node of the kind in its slot
 abbrev pub KindHas : Bool → Label → NodeKind → PlainPlace → Type 0
 KindHas marked label kind q =
-    (label.slot ≡ q.slot) × IsTrue ((is_statement (sort_of kind) && (q.point == 0)) || has_point marked label kind q.point)
+    (label.slot ≡ q.slot) × IsTrue ((has_start (sort_of kind) && (q.point == 0)) || has_point marked label kind q.point)
 
 -- ---- tests of points
 

@@ -12,7 +12,7 @@ use Rattle.plcs_grammar.specs.declared.node_kind.NodeKind.{NodeKind}
 use Rattle.plcs_grammar.specs.declared.template.Template.{Template}
 use Rattle.plcs_grammar.specs.PlainPhrase.{PlainPhrase}
 use Rattle.template_tree.specs.Programs.Part.{part_at}
-use Rattle.template_tree.specs.Positions.Place.{PlainPlace, end_at, inner_end, is_statement, place_at}
+use Rattle.template_tree.specs.Positions.Place.{PlainPlace, end_at, goes_on_behind, inner_end, place_at}
 use Rattle.template_tree.specs.Programs.Program.{sort_of}
 use Rattle.plcs_code.specs.ExprCode.{part_instrs}
 use Rattle.plcs_code.specs.Gen.{code_with, codes_around, has_code}
@@ -153,7 +153,7 @@ module _ (instrs : List PlainInstr) (start slot : ℕ) (all one : Option PlainIn
   abbrev TemplateEnds : Template → Type 0
   TemplateEnds template =
       has_code (NodeKind.Filled template) ≡ true → StandsAt instrs start (code_with (own_of template) (around_of template) codes)
-      → (is_statement (sort_of (NodeKind.Filled template)) ≡ true
+      → (goes_on_behind (sort_of (NodeKind.Filled template)) ≡ true
       → Lands instrs (start + length (code_with (own_of template) (around_of template) codes)) after)
       → Lands instrs (inside_end instrs start (own_of template) (around_of template) codes) (end_at slot (inner_end (NodeKind.Filled template)) after)
 
@@ -189,7 +189,7 @@ module _ (instrs : List PlainInstr) (start slot : ℕ) (all one : Option PlainIn
   abbrev pub KindEnds : NodeKind → Type 0
   KindEnds kind =
       has_code kind ≡ true → StandsAt instrs start (code_with (kind_own kind) (kind_around kind) codes)
-      → (is_statement (sort_of kind) ≡ true → Lands instrs (start + length (code_with (kind_own kind) (kind_around kind) codes)) after)
+      → (goes_on_behind (sort_of kind) ≡ true → Lands instrs (start + length (code_with (kind_own kind) (kind_around kind) codes)) after)
       → Lands instrs (inside_end instrs start (kind_own kind) (kind_around kind) codes) (end_at slot (inner_end kind) after)
 
   pub kind_ends : (kind : NodeKind) → KindEnds kind

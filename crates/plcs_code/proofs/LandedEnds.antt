@@ -1,8 +1,8 @@
--- The law `statements_go_on`: at the end of the code of each statement a run goes on where it does once that is done.
+-- The law `statements_go_on`: at the end of the code of each node behind which a run goes on it does so once that is done.
 -- What stands inside a node goes on by the kind of the node; in a list each goes on at the next one, which begins where
 -- it ends.
 use Rattle.std.proofs.Common.{◌≡◌, ℕ, suc, ◌+◌, ◌<◌, Bool, true, false, ◌⊎◌, inl, inr, List, [], ◌∷◌, ◌++◌, length, map, take, Option, Some, None, refl, ap, sym, subst, ◌∙◌, arith}
-use Rattle.std.specs.Prelude.{◌==◌, flat_map, if◌then◌else◌, is_some, pos, slice_index_or, sum}
+use Rattle.std.specs.Prelude.{◌==◌, ◌||◌, flat_map, if◌then◌else◌, is_some, not, pos, slice_index_or, sum}
 use Rattle.std.specs.FinMap.{get-from_entries}
 use Rattle.std.specs.Option.{option_or, option_to_list}
 use Rattle.std.proofs.Math.Bool.{false≢true}
@@ -17,7 +17,7 @@ use Rattle.plcs_grammar.specs.declared.node_kind.Sort.{Sort}
 use Rattle.plcs_grammar.specs.declared.template.Template.{Template}
 use Rattle.plcs_grammar.specs.Template.{PlainSection, list_of, procedure_sections, program_sections, row_of}
 use Rattle.template_tree.specs.Programs.Part.{part_at}
-use Rattle.template_tree.specs.Positions.Place.{PlainPlace, Site, begin, end_at, in_turn, inner_end, is_statement, passes_in, place_at, site_among}
+use Rattle.template_tree.specs.Positions.Place.{PlainPlace, Site, begin, begins_run, end_at, goes_on_behind, in_turn, inner_end, passes_in, place_at, site_among}
 use Rattle.template_tree.specs.Programs.PlainTree.{Forest, Label}
 use Rattle.template_tree.specs.Programs.Program.{AreNodes, Fill, IsNode, sort_of, sorts}
 use Rattle.template_tree.specs.Checks.ProgramMaps.{items_in}
@@ -38,13 +38,11 @@ use Rattle.plcs_code.proofs.StoodCode.{StandsAt, all_stand, first_stands, second
 
 -- ---- what may stand inside a node
 
+-- a run begins at nodes of the sort, or they have no code
 abbrev is_body : Sort → Bool
-is_body Sort.Main = false
-is_body Sort.Procedure = false
-is_body Sort.Declaration = true
-is_body Sort.Statement = true
+is_body sort = begins_run sort || not (sort_has_code sort)
 
--- each of the sorts is that of declarations or of statements
+-- each of the sorts is such a one
 abbrev pub AreBodies : List Sort → Type 0
 AreBodies [] = Unit {0}
 AreBodies (sort ∷ others) = (is_body sort ≡ true) × AreBodies others
@@ -70,10 +68,10 @@ procedure_bodies items (own, others, same, are, rest) =
     subst AreBodies (sym same)
     (bodies_append own others (same_bodies Sort.Declaration own refl are.1) (statements_are others rest))
 
--- none of the sorts is that of statements
-abbrev pub no_statement_sorts : List Sort → Type 0
-no_statement_sorts [] = Unit {0}
-no_statement_sorts (sort ∷ others) = (is_statement sort ≡ false) × no_statement_sorts others
+-- a run goes on behind none of the sorts
+abbrev pub NoneGoesOn : List Sort → Type 0
+NoneGoesOn [] = Unit {0}
+NoneGoesOn (sort ∷ others) = (goes_on_behind sort ≡ false) × NoneGoesOn others
 
 -- ---- nodes without nodes inside
 
@@ -88,15 +86,15 @@ none_inside (Forest.cons label inner rest) e = absurd (by e)
     by : sort_of label.kind ∷ sorts rest ≡ [] → ⊥
     by e = false≢true (sym (ap first e))
 
--- the code of a declaration is none
-pub declaration_kind : (marks : MarkMap) (items : ItemMap) (label : Label) (inner : Forest) (kind : NodeKind) → label.kind ≡ kind
-    → Fill (row_of kind).sections (sorts inner) → is_body (sort_of kind) ≡ true → is_statement (sort_of kind) ≡ false
+-- what stands where such nodes do, and a run passes over, has no code
+pub passed_over_codeless : (marks : MarkMap) (items : ItemMap) (label : Label) (inner : Forest) (kind : NodeKind) → label.kind ≡ kind
+    → Fill (row_of kind).sections (sorts inner) → is_body (sort_of kind) ≡ true → begins_run (sort_of kind) ≡ false
     → length (code_around marks items label (node_codes marks items inner)) ≡ 0
-declaration_kind marks items label inner kind same fill body none =
+passed_over_codeless marks items label inner kind same fill body none =
     node_long marks items label inner ∙ ap (λ (l : List ℕ). length_around marks items label l) (nothing kind fill body none)
     ∙ by kind same body none
   where
-    nothing : (kind : NodeKind) → Fill (row_of kind).sections (sorts inner) → is_body (sort_of kind) ≡ true → is_statement (sort_of kind) ≡ false
+    nothing : (kind : NodeKind) → Fill (row_of kind).sections (sorts inner) → is_body (sort_of kind) ≡ true → begins_run (sort_of kind) ≡ false
         → node_lengths marks items inner ≡ []
     nothing NodeKind.DeclarationHole fill body none = ap (node_lengths marks items) (none_inside inner fill)
     nothing (NodeKind.Filled Template.Fixed) fill body none = ap (node_lengths marks items) (none_inside inner fill)
@@ -109,7 +107,7 @@ declaration_kind marks items label inner kind same fill body none =
     nothing NodeKind.Main fill body none = absurd (false≢true body)
     nothing other fill body none = absurd (false≢true (sym none))
 
-    by : (kind : NodeKind) → label.kind ≡ kind → is_body (sort_of kind) ≡ true → is_statement (sort_of kind) ≡ false
+    by : (kind : NodeKind) → label.kind ≡ kind → is_body (sort_of kind) ≡ true → begins_run (sort_of kind) ≡ false
         → length_around marks items label [] ≡ 0
     by NodeKind.DeclarationHole same body none =
         ap (λ (k : NodeKind). length_around marks items (let l : Label = record label { kind = k } in l) []) same
@@ -140,16 +138,16 @@ module _ (marks : MarkMap) (items : ItemMap) (instrs : List PlainInstr) where
   begins_landed start (Forest.cons label inner rest) place are bodies stands on =
       let code = code_of label inner in
       let codes = codes_joined (node_codes marks items rest) in
-      by (is_statement (sort_of label.kind)) refl (passes_in label.kind) refl
+      by (begins_run (sort_of label.kind)) refl (passes_in label.kind) refl
       (λ none.
-      let long : length code ≡ 0 = declaration_kind marks items label inner label.kind refl are.0.inner bodies.0 none in
+      let long : length code ≡ 0 = passed_over_codeless marks items label inner label.kind refl are.0.inner bodies.0 none in
       begins_landed start rest place are.2 bodies.1
       (second_stands instrs start start code codes (omega (arith, long)) stands)
       (lands_at (start + length (code ++ codes)) (start + length codes) (omega (arith, length-append code codes, long)) on))
     where
-      by : (statement : Bool) → is_statement (sort_of label.kind) ≡ statement → (passes : Bool) → passes_in label.kind ≡ passes
-          → (is_statement (sort_of label.kind) ≡ false → Lands instrs start (begin rest place))
-          → Lands instrs start (if statement then (if passes then begin inner place else place_at label.slot 0) else begin rest place)
+      by : (begins : Bool) → begins_run (sort_of label.kind) ≡ begins → (passes : Bool) → passes_in label.kind ≡ passes
+          → (begins_run (sort_of label.kind) ≡ false → Lands instrs start (begin rest place))
+          → Lands instrs start (if begins then (if passes then begin inner place else place_at label.slot 0) else begin rest place)
       by false is passes pass later = later is
       by true is true pass later =
           lands_here start
@@ -163,11 +161,11 @@ module _ (marks : MarkMap) (items : ItemMap) (instrs : List PlainInstr) where
 
   -- ---- where nodes in order go on
 
-  -- at the end of each statement among the nodes a run goes on where it does behind that
+  -- at the end of each of the nodes behind which a run goes on it does so
   abbrev pub GoOn : PlainPlace → Bool → (start gap : ℕ) → Forest → Type 0
   GoOn place turn start gap Forest.nil = Unit {0}
   GoOn place turn start gap (Forest.cons label inner rest) =
-      (is_statement (sort_of label.kind) ≡ true → Lands instrs (start + length (code_of label inner)) (after_node turn rest place))
+      (goes_on_behind (sort_of label.kind) ≡ true → Lands instrs (start + length (code_of label inner)) (after_node turn rest place))
       × GoOn place turn (start + length (code_of label inner) + gap) 0 rest
 
   -- where they are done in turn, and a run goes on at the place at their end
@@ -182,15 +180,15 @@ module _ (marks : MarkMap) (items : ItemMap) (instrs : List PlainInstr) where
       let end : Lands instrs (start + length code + length codes) place =
       lands_at (start + length (code ++ codes)) (start + length code + length codes) (omega (arith, length-append code codes)) on in
       let none : start + length code ≡ start + length code + 0 = omega arith in (
-        (λ statement. begins_landed (start + length code) rest place are.2 bodies.1 behind end),
+        (λ goes. begins_landed (start + length code) rest place are.2 bodies.1 behind end),
         subst (λ (n : ℕ). GoOn place true n 0 rest) none (turn_goes_on (start + length code) rest place are.2 bodies.1 behind end),
       )
 
-  -- nodes none of which is a statement
-  pub none_goes_on : (start gap : ℕ) (nodes : Forest) (place : PlainPlace) (turn : Bool) → no_statement_sorts (sorts nodes) → GoOn place turn start gap nodes
+  -- nodes behind none of which a run goes on
+  pub none_goes_on : (start gap : ℕ) (nodes : Forest) (place : PlainPlace) (turn : Bool) → NoneGoesOn (sorts nodes) → GoOn place turn start gap nodes
   none_goes_on start gap Forest.nil place turn none = tt
   none_goes_on start gap (Forest.cons label inner rest) place turn none = (
-    (λ statement. absurd (false≢true (sym none.0 ∙ statement))),
+    (λ goes. absurd (false≢true (sym none.0 ∙ goes))),
     none_goes_on (start + length (code_of label inner) + gap) 0 rest place turn none.1,
   )
 
@@ -204,7 +202,7 @@ module _ (marks : MarkMap) (items : ItemMap) (instrs : List PlainInstr) where
 
   module _ (start : ℕ) (label : Label) (inner : Forest) (after : PlainPlace) (node : IsNode label (sorts inner)) (are : AreNodes inner)
       (stands : StandsAt instrs start (code_of label inner))
-      (on : is_statement (sort_of label.kind) ≡ true → Lands instrs (start + length (code_of label inner)) after) where
+      (on : goes_on_behind (sort_of label.kind) ≡ true → Lands instrs (start + length (code_of label inner)) after) where
     abbrev codes : List (List PlainInstr)
     codes = node_codes marks items inner
 
@@ -279,7 +277,7 @@ module _ (marks : MarkMap) (items : ItemMap) (instrs : List PlainInstr) where
         let is : has_code label.kind ≡ true = ap has_code kind in
         let there_is : place ≡ after = ap (λ (k : NodeKind). end_at label.slot (inner_end k) after) kind in
         let turn : in_turn (row_of label.kind).sections ≡ false = ap (λ (k : NodeKind). in_turn (row_of k).sections) kind in
-        let statement : is_statement (sort_of label.kind) ≡ true = ap (λ (k : NodeKind). is_statement (sort_of k)) kind in
+        let goes : goes_on_behind (sort_of label.kind) ≡ true = ap (λ (k : NodeKind). goes_on_behind (sort_of k)) kind in
         let told : around.between ≡ Some (PlainInstr.jump (pos (other_lengths (map length codes)))) =
         ap (λ (k : NodeKind). (kind_jumps label.slot counter (is_some all) (is_some stop) (length own.before) (first_length (map length codes)) (other_lengths (map length codes)) k).between) kind in
         let gap : length (option_to_list around.between) ≡ 1 = ap (λ (o : Option PlainInstr). length (option_to_list o)) told in
@@ -307,7 +305,7 @@ module _ (marks : MarkMap) (items : ItemMap) (instrs : List PlainInstr) where
         StandsAt instrs start (code_with own around cs) → Lands instrs (start + length (code_with own around cs)) after
         → Lands instrs (inside instrs start own around cs + length first) after) (sym two)
         (first_body_ends instrs start label.slot all stop label.parts its counter first second after))
-        stands (on statement) in
+        stands (on goes) in
         let second_end : Lands instrs (there + length first + inner_gap marks items label inner + length second) place =
         lands_at (inside_end instrs start own around codes) (there + length first + inner_gap marks items label inner + length second)
         (omega (arith, same_start, long, gap, gap_told, sums, head, tail, lone)) (inner_ends is) in
@@ -405,7 +403,7 @@ module _ (marks : MarkMap) (items : ItemMap) (instrs : List PlainInstr) where
   -- what stands inside a node goes on
   inner_goes_on : (start : ℕ) (label : Label) (inner : Forest) (after : PlainPlace) → IsNode label (sorts inner) → AreNodes inner
       → StandsAt instrs start (code_around marks items label (node_codes marks items inner))
-      → (is_statement (sort_of label.kind) ≡ true → Lands instrs (start + length (code_around marks items label (node_codes marks items inner))) after)
+      → (goes_on_behind (sort_of label.kind) ≡ true → Lands instrs (start + length (code_around marks items label (node_codes marks items inner))) after)
       → GoOn marks items instrs (end_at label.slot (inner_end label.kind) after) (in_turn (row_of label.kind).sections) (inner_start marks items start label inner)
       (inner_gap marks items label inner) inner
   inner_goes_on start label inner after node are stands on =
@@ -436,7 +434,7 @@ module _ (marks : MarkMap) (items : ItemMap) (instrs : List PlainInstr) where
   abbrev NodeLanded : Option NodeSpan → Site → Type 0
   NodeLanded node found =
       (start : ℕ) × (node ≡ Some (own_node marks items start found.label found.inner))
-      × (is_statement (sort_of found.label.kind) ≡ true → Lands instrs (start + length (code_of_site marks items found)) found.after)
+      × (goes_on_behind (sort_of found.label.kind) ≡ true → Lands instrs (start + length (code_of_site marks items found)) found.after)
 
   landed_among : (slot start gap : ℕ) (between : List PlainInstr) (turn : Bool) (nodes : Forest) (place : PlainPlace) (found : Site)
       → length between ≡ gap → AreNodes nodes → StandsAt instrs start (codes_around between (node_codes marks items nodes))
@@ -490,43 +488,43 @@ module _ (marks : MarkMap) (items : ItemMap) (instrs : List PlainInstr) where
 
 -- ---- the law
 
--- statements have code
-statement_code : (kind : NodeKind) → is_statement (sort_of kind) ≡ true → has_code kind ≡ true
-statement_code NodeKind.ProcedureHole is = absurd (false≢true is)
-statement_code NodeKind.DeclarationHole is = absurd (false≢true is)
-statement_code NodeKind.Main is = absurd (false≢true is)
-statement_code NodeKind.StatementHole is = refl
-statement_code NodeKind.Assign is = refl
-statement_code (NodeKind.Filled template) is = by (sort_of (NodeKind.Filled template)) is
+-- a node that a run goes on behind has code
+done_code : (kind : NodeKind) → goes_on_behind (sort_of kind) ≡ true → has_code kind ≡ true
+done_code NodeKind.ProcedureHole is = absurd (false≢true is)
+done_code NodeKind.DeclarationHole is = absurd (false≢true is)
+done_code NodeKind.Main is = absurd (false≢true is)
+done_code NodeKind.StatementHole is = refl
+done_code NodeKind.Assign is = refl
+done_code (NodeKind.Filled template) is = by (sort_of (NodeKind.Filled template)) is
   where
-    by : (sort : Sort) → is_statement sort ≡ true → sort_has_code sort ≡ true
+    by : (sort : Sort) → goes_on_behind sort ≡ true → sort_has_code sort ≡ true
     by Sort.Statement is = refl
     by Sort.Main is = refl
     by Sort.Procedure is = refl
     by Sort.Declaration is = absurd (false≢true is)
 
-same_none : (sort : Sort) (own : List Sort) → is_statement sort ≡ false → ((k : ℕ) (d : Sort) → k < length own → slice_index_or own k d ≡ sort)
-    → no_statement_sorts own
+same_none : (sort : Sort) (own : List Sort) → goes_on_behind sort ≡ false → ((k : ℕ) (d : Sort) → k < length own → slice_index_or own k d ≡ sort)
+    → NoneGoesOn own
 same_none sort [] is all = tt
 same_none sort (first ∷ own) is all = (
-  ap is_statement (all 0 sort (omega arith)) ∙ is,
+  ap goes_on_behind (all 0 sort (omega arith)) ∙ is,
   same_none sort own is (λ k d few. all (suc k) d (omega (arith, few))),
 )
 
-none_append : (one other : List Sort) → no_statement_sorts one → no_statement_sorts other → no_statement_sorts (one ++ other)
+none_append : (one other : List Sort) → NoneGoesOn one → NoneGoesOn other → NoneGoesOn (one ++ other)
 none_append [] other first second = second
 none_append (sort ∷ one) other first second = (first.0, none_append one other first.1 second)
 
-program_none : (items : List Sort) → Fill program_sections items → no_statement_sorts items
+program_none : (items : List Sort) → Fill program_sections items → NoneGoesOn items
 program_none items (first, others, same, are, (next, more, split, is, none)) =
-    subst no_statement_sorts
+    subst NoneGoesOn
     (sym (same ∙ ap (λ (l : List Sort). l ++ others) are ∙ ap (λ (l : List Sort). Sort.Main ∷ l) (split ∙ ap (λ (l : List Sort). next ++ l) none))) (
       refl,
       none_append next [] (same_none Sort.Procedure next refl is.1) tt,
     )
 
 pub statements_go_on : StatementsGoOn
-statements_go_on marks items program slot found is e statement =
+statements_go_on marks items program slot found is e goes =
     let instrs = codes_joined (node_codes marks items program) in
     let there =
     landed_among marks items instrs slot 0 0 [] false program (place_at 0 1) found refl is.sound
@@ -536,7 +534,7 @@ statements_go_on marks items program slot found is e statement =
       there.0,
       node.length,
       get-from_entries nat_cmp_total (flat_map span_by_slot (node_spans marks items 0 0 program)) slot
-          ∙ first_span slot (node_spans marks items 0 0 program) node there.1 (statement_code found.label.kind statement),
+          ∙ first_span slot (node_spans marks items 0 0 program) node there.1 (done_code found.label.kind goes),
       lands_at (there.0 + length (code_of_site marks items found)) (there.0 + node.length)
-          (ap (λ (n : ℕ). there.0 + n) (node_long marks items found.label found.inner)) (there.2 statement),
+          (ap (λ (n : ℕ). there.0 + n) (node_long marks items found.label found.inner)) (there.2 goes),
     )

@@ -16,7 +16,7 @@ use Rattle.plcs_base.specs.declared.place.Place.{Place}
 use Rattle.plcs_grammar.specs.declared.node_kind.NodeKind.{NodeKind}
 use Rattle.plcs_grammar.specs.declared.template.Template.{Template}
 use Rattle.template_tree.specs.Programs.Part.{part_at}
-use Rattle.template_tree.specs.Positions.Place.{Exists, PlainPlace, Site, has_point, is_statement, passes_in, place_at, place_exists_at, site}
+use Rattle.template_tree.specs.Positions.Place.{Exists, PlainPlace, Site, has_point, has_start, passes_in, place_at, place_exists_at, site}
 use Rattle.template_tree.specs.Programs.PlainTree.{Forest, Label}
 use Rattle.template_tree.specs.Programs.Program.{AreNodes, sort_of}
 use Rattle.template_tree.specs.Checks.ProgramMaps.{items_in}
@@ -387,7 +387,7 @@ somewhere_in marks items q start gap (Forest.cons label inner rest) h =
 -- whether a run has the place at a node, if that is in its slot
 abbrev HasPoint : MarkMap → PlainPlace → Label → Type 0
 HasPoint marks q label =
-    IsTrue ((is_statement (sort_of label.kind) && (q.point == 0)) || has_point (is_marked_first marks q.slot) label label.kind q.point)
+    IsTrue ((has_start (sort_of label.kind) && (q.point == 0)) || has_point (is_marked_first marks q.slot) label label.kind q.point)
 
 -- a place of a node's own code is one that a run has there
 own_had : (marks : MarkMap) (items : ItemMap) (q : PlainPlace) (nodes : Forest) → AreNodes nodes → Somewhere (OwnPlace marks items q) nodes
@@ -398,7 +398,7 @@ own_had marks items q (Forest.cons label inner rest) are (inl h) =
     inl (
       has.0,
       subst
-          (λ (s : ℕ). IsTrue ((is_statement (sort_of label.kind) && (q.point == 0)) || has_point (is_marked_first marks s) label label.kind q.point))
+          (λ (s : ℕ). IsTrue ((has_start (sort_of label.kind) && (q.point == 0)) || has_point (is_marked_first marks s) label label.kind q.point))
           has.0 has.1,
     )
 own_had marks items q (Forest.cons label inner rest) are (inr (inl h)) = inr (inl (own_had marks items q inner are.1 h))
@@ -414,7 +414,7 @@ site_owns marks items program q found are e has =
     (had_place marks found.label (items_in items found.label.slot) found.label.kind q node.parts (
       same,
       subst
-          (λ (s : ℕ). IsTrue ((is_statement (sort_of found.label.kind) && (q.point == 0)) || has_point (is_marked_first marks s) found.label found.label.kind q.point))
+          (λ (s : ℕ). IsTrue ((has_start (sort_of found.label.kind) && (q.point == 0)) || has_point (is_marked_first marks s) found.label found.label.kind q.point))
           (sym same) has,
     ))
 

@@ -96,8 +96,9 @@ endless_slot false true slot q h = h.0
 endless_slot false false slot q h = absurd h
 
 endless_ends_not : (passes call : Bool) (slot : ℕ) (q : PlainPlace) → EndlessPlace passes call slot q
-    → (not passes && not (call && (q.point == 1))) ≡ true → ⊥
-endless_ends_not true call slot q h ends = false≢true ends
+    → (not (passes && (q.point == 0)) && not (call && (q.point == 1))) ≡ true → ⊥
+endless_ends_not true call slot q h ends =
+    false≢true (sym (ap (λ (b : Bool). not b && not (call && (q.point == 1))) (eq-eqb q.point 0 (sym h.1))) ∙ ends)
 endless_ends_not false true slot q h ends = false≢true (sym (ap not (eq-eqb q.point 1 (sym h.1))) ∙ ends)
 endless_ends_not false false slot q h ends = h
 

@@ -136,7 +136,7 @@ PlacesHaveAddresses =
 -- whether a step ends at the point of a node of the kind, if a run has that, as the law of addresses says it: not at
 -- the start of what passes a run on, nor where a call comes back
 abbrev pub ends_step : NodeKind → (point : ℕ) → Bool
-ends_step kind point = not (passes_in kind) && not (is_call kind && (point == 1))
+ends_step kind point = not (passes_in kind && (point == 0)) && not (is_call kind && (point == 1))
 
 -- the law that a place whose slot stands but once has at its address the step that ends there
 abbrev pub AddressesHoldSteps : Type 0
@@ -147,8 +147,8 @@ AddressesHoldSteps =
     → get (Gen marks items program).addresses (place_of place) ≡ Some address
     → slice_get (Gen marks items program).instrs address ≡ Some (PlainInstr.place place)
 
--- the law that the start of a group or a comment of a program has the address at which the span of its code begins,
--- and there stands the step at which a run begins that comes to it
+-- the law that the start of a node of a program that passes a run on has the address at which the span of its code
+-- begins, and there stands the step at which a run begins that comes to it
 abbrev pub PassedStartsStand : Type 0
 PassedStartsStand =
     (marks : MarkMap) (items : ItemMap) (program : Forest) (slot : ℕ) (found : Site) → IsProgram program

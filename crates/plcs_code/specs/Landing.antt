@@ -1,4 +1,4 @@
--- Where a run comes to that goes on in code: by jumps alone at the end of a statement, and at once where a body begins.
+-- Where a run comes to that goes on in code: by jumps alone at the end of a node, and at once where a body begins.
 -- Also that the step of a place stands at the address of that alone.
 use Rattle.std.specs.Prelude.{◌≡◌, ℕ, zero, suc, ◌+◌, ◌<◌, ◌≤◌, ℤ, ◌+ℤ◌, pos, true, List, length, Some, slice_get}
 use Rattle.std.specs.FinMap.{get}
@@ -8,7 +8,7 @@ use Rattle.plcs_base.specs.Mark.{MarkMap}
 use Rattle.plcs_base.specs.Scope.{ItemMap}
 use Rattle.plcs_grammar.specs.declared.node_kind.NodeKind.{NodeKind}
 use Rattle.plcs_grammar.specs.declared.template.Template.{Template}
-use Rattle.template_tree.specs.Positions.Place.{PlainPlace, Site, begin, is_statement, site}
+use Rattle.template_tree.specs.Positions.Place.{PlainPlace, Site, begin, begins_run, goes_on_behind, site}
 use Rattle.template_tree.specs.Programs.PlainTree.{Forest, Label}
 use Rattle.template_tree.specs.Programs.Program.{IsProgram, sort_of, sorts}
 use Rattle.template_tree.specs.Programs.Slots.{times}
@@ -35,12 +35,12 @@ pub record Lands (instrs : List PlainInstr) (address : ℕ) (place : PlainPlace)
   pub few : address + jumps < length instrs
   pub by : LandsBy instrs place jumps address
 
--- where a run comes to at the end of the code of a statement: by jumps alone to where it goes on once the statement is
--- done
+-- where a run comes to at the end of the code of a node that it goes on behind: by jumps alone to where it goes on once
+-- the node is done
 abbrev pub StatementsGoOn : Type 0
 StatementsGoOn =
     (marks : MarkMap) (items : ItemMap) (program : Forest) (slot : ℕ) (found : Site) → IsProgram program
-    → site program slot ≡ Some found → is_statement (sort_of found.label.kind) ≡ true
+    → site program slot ≡ Some found → goes_on_behind (sort_of found.label.kind) ≡ true
     → (start count : ℕ) × (get (Gen marks items program).spans slot ≡ Some (start, count))
     × Lands (Gen marks items program).instrs (start + count) found.after
 
@@ -53,12 +53,13 @@ length_before marks items label inner =
     length (pieces marks items label).before
     + length (option_to_list (jumps marks items label (node_lengths marks items inner)).ahead)
 
--- in code the body of a node, a statement in it, begins at once with the place at which a run begins that comes to it
+-- in code what stands inside a node, if a run begins at any of it, starts at once with the place at which a run begins
+-- that comes to it
 abbrev pub BodiesBegin : Type 0
 BodiesBegin =
     (marks : MarkMap) (items : ItemMap) (program : Forest) (slot : ℕ) (found : Site) (behind : PlainPlace)
     → IsProgram program
-    → site program slot ≡ Some found → list_any is_statement (sorts found.inner) ≡ true
+    → site program slot ≡ Some found → list_any begins_run (sorts found.inner) ≡ true
     → (start count : ℕ) × (get (Gen marks items program).spans slot ≡ Some (start, count))
     × (slice_get (Gen marks items program).instrs (start + length_before marks items found.label found.inner)
     ≡ Some (PlainInstr.place (begin found.inner behind)))

@@ -290,14 +290,14 @@ module _ (code : PlainCode) (rest : List ℕ) (c : PlainConfiguration)
   jumped_to : (next target : ℕ) (d : ℤ) → pos target ≡ pos next +ℤ d → jump_target next d ≡ Some target
   jumped_to next target d goes = ap address_at (sym goes)
 
-  pub begins_run : (slot : ℕ) (name : List ℕ) (first limit step : PlainExpr) (inside after : PlainPlace) (d : ℤ) (n address next target : ℕ)
+  pub enters_run : (slot : ℕ) (name : List ℕ) (first limit step : PlainExpr) (inside after : PlainPlace) (d : ℤ) (n address next target : ℕ)
       → HasAt code.instrs address (expr_instrs first ++ (expr_instrs limit ++ (expr_instrs step ++ (PlainInstr.for_enter slot name d ∷ []))))
       → next ≡ address + (length (expr_instrs first) + (length (expr_instrs limit) + (length (expr_instrs step) + 1)))
       → pos target ≡ pos next +ℤ d → next ≤ target → has_loop_room c.frames ≡ true
       → Lands code.instrs next inside → Lands code.instrs target after → length code.instrs ≤ address + n
       → length (canon first) ≤ 400 → length (canon limit) ≤ 400 → length (canon step) ≤ 400
       → Meets (answer code rest c n address [] []) (step_answer c (begin_going c.frames slot name first limit step inside after))
-  begins_run slot name first limit step inside after d n address next target has end goes ahead loops within beside enough short shorter shortest =
+  enters_run slot name first limit step inside after d n address next target has end goes ahead loops within beside enough short shorter shortest =
       let one = expr_instrs first in
       let two = expr_instrs limit in
       let three = expr_instrs step in

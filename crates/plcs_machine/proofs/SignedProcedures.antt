@@ -34,7 +34,7 @@ use Rattle.plcs_machine.proofs.RunCalls.{EntersAt}
 use Rattle.plcs_machine.proofs.SiteCode.{CodeLawsHold, code_of_site}
 use Rattle.plcs_machine.proofs.SiteRuns.{has_both}
 use Rattle.plcs_machine.proofs.StandingCode.{HasAt, has_first}
-use Rattle.plcs_machine.proofs.TreeBegun.{procedure_has}
+use Rattle.plcs_machine.proofs.TreeBegun.{procedure_begins}
 
 -- ---- slots that stand once
 
@@ -245,7 +245,7 @@ module _ (laws : CodeLawsHold) (marks : MarkMap) (items : ItemMap) (program : Fo
       (other_lengths (node_lengths marks items node.inner))) in
       let fill : Fill procedure_sections (sorts node.inner) =
       subst (λ (l : List PlainSection). Fill l (sorts node.inner)) headed.sections own.node.inner in
-      let place = its.begins (place_at node.label.slot 1) (procedure_has (sorts node.inner) fill) in
+      let place = its.begins (place_at node.label.slot 1) (procedure_begins (sorts node.inner) fill) in
       let long : length (pieces marks items node.label).before ≡ length cells = ap length before in
       let there : slice_get (Gen marks items program).instrs (entry.address + length cells) ≡ Some (PlainInstr.place (begin node.inner (place_at node.label.slot 1))) =
       ap (slice_get (Gen marks items program).instrs) (omega (arith, start, ahead, long)) ∙ place in

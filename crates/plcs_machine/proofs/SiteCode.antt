@@ -14,7 +14,7 @@ use Rattle.plcs_base.specs.declared.declared.Declared.{Declared}
 use Rattle.plcs_grammar.specs.declared.node_kind.NodeKind.{NodeKind}
 use Rattle.plcs_grammar.specs.declared.template.Template.{Template}
 use Rattle.plcs_grammar.specs.PlainPhrase.{PlainPhrase}
-use Rattle.template_tree.specs.Positions.Place.{PlainPlace, Site, begin, is_statement, place_at, site}
+use Rattle.template_tree.specs.Positions.Place.{PlainPlace, Site, begin, begins_run, goes_on_behind, place_at, site}
 use Rattle.template_tree.specs.Programs.Part.{part_at}
 use Rattle.template_tree.specs.Programs.PlainTree.{Forest, Label}
 use Rattle.template_tree.specs.Programs.Program.{IsProgram, sort_of, sorts}
@@ -59,10 +59,10 @@ pub record IsCodeOf (marks : MarkMap) (items : ItemMap) (program : Forest) (foun
   pub start : ℕ
   pub stands : HasAt (Gen marks items program).instrs start (code_around marks items found.label (node_codes marks items found.inner))
   pub ends :
-      is_statement (sort_of found.label.kind) ≡ true
+      goes_on_behind (sort_of found.label.kind) ≡ true
       → Lands (Gen marks items program).instrs (start + length (code_around marks items found.label (node_codes marks items found.inner))) found.after
   pub begins :
-      (behind : PlainPlace) → list_any is_statement (sorts found.inner) ≡ true
+      (behind : PlainPlace) → list_any begins_run (sorts found.inner) ≡ true
       → slice_get (Gen marks items program).instrs (start + length_before marks items found.label found.inner) ≡ Some (PlainInstr.place (begin found.inner behind))
   pub seconds :
       (first : Label) (within rest : Forest) (behind : PlainPlace) → found.label.kind ≡ NodeKind.Filled Template.IfElse
@@ -99,8 +99,8 @@ code_of_site laws marks items program found is once e has =
       start = there.0;
       stands = has_at code.instrs there.0 whole there.2;
       ends =
-          λ statement.
-          let on = laws.ends marks items program slot found is e statement in
+          λ goes.
+          let on = laws.ends marks items program slot found is e goes in
           let same = same_span (get code.spans slot) on.0 on.1 there.0 (length whole) on.2 there.1 in
           subst (λ (n : ℕ). Lands code.instrs n found.after) (omega (arith, same.0, same.1)) on.3;
       begins =

@@ -20,7 +20,7 @@ use Rattle.plcs_grammar.specs.Canon.{Canon, canon, canon_call, canon_list, canon
 use Rattle.plcs_grammar.specs.PlainPhrase.{PlainExpr, PlainExprs, PlainPhrase, PlainVarRef}
 use Rattle.plcs_grammar.specs.Template.{PlainSection, row_of}
 use Rattle.template_tree.specs.Checks.ProgramMaps.{items_in}
-use Rattle.template_tree.specs.Positions.Place.{PlainPlace, Site, begin, is_statement, item_count, place_at}
+use Rattle.template_tree.specs.Positions.Place.{PlainPlace, Site, begin, begins_run, goes_on_behind, item_count, place_at}
 use Rattle.template_tree.specs.Programs.Part.{part_at}
 use Rattle.template_tree.specs.Programs.PlainTree.{Forest, Label}
 use Rattle.template_tree.specs.Programs.Program.{AreParts, Fill, IsNode, IsPart, parts_of, sort_of, sorts}
@@ -40,10 +40,10 @@ use Rattle.plcs_machine.specs.Lead.{Lead, has_loop_room, lead}
 use Rattle.plcs_machine.specs.Reached.{reached}
 use Rattle.plcs_machine.proofs.RunCalls.{EntersAt, calls_run}
 use Rattle.plcs_machine.proofs.RunExpressions.{answer}
-use Rattle.plcs_machine.proofs.RunSpots.{Meets, assigns_run, begins_run, halts_run, index_shorter, iterates_run, meets_same, put_of, reads_run, tests_run, writes_run}
+use Rattle.plcs_machine.proofs.RunSpots.{Meets, assigns_run, enters_run, halts_run, index_shorter, iterates_run, meets_same, put_of, reads_run, tests_run, writes_run}
 use Rattle.plcs_machine.proofs.SiteCode.{IsCodeOf, around_of, code_of, inside_length, own_of, with_length}
 use Rattle.plcs_machine.proofs.StandingCode.{HasAt, has_first, has_second}
-use Rattle.plcs_machine.proofs.TreeBegun.{filled_has}
+use Rattle.plcs_machine.proofs.TreeBegun.{filled_begins}
 use Rattle.plcs_machine.proofs.Suspensions.{Halts, Stops, first_of_four, first_stops, four_stops, four_there, mark_of}
 
 -- ---- code in parts
@@ -123,19 +123,19 @@ call_short name PlainExprs.nil short = omega arith
 call_short name (PlainExprs.cons a es) short =
     let inside = index_shorter name (canon_list (PlainExprs.cons a es)) in omega (arith, short, inside)
 
-one_statement : (items : List Sort) → Fill (row_of (NodeKind.Filled Template.If)).sections items → list_any is_statement items ≡ true
-one_statement items (own, others, same, are, none) =
-    ap (list_any is_statement) same ∙ ap (λ (l : List Sort). list_any is_statement (l ++ others)) are
+one_begins : (items : List Sort) → Fill (row_of (NodeKind.Filled Template.If)).sections items → list_any begins_run items ≡ true
+one_begins items (own, others, same, are, none) =
+    ap (list_any begins_run) same ∙ ap (λ (l : List Sort). list_any begins_run (l ++ others)) are
 
 two_sorts : (items : List Sort) → Fill (row_of (NodeKind.Filled Template.IfElse)).sections items → items ≡ Sort.Statement ∷ (Sort.Statement ∷ [])
 two_sorts items (own, others, same, are, (next, more, split, is, none)) =
     same ∙ ap (λ (l : List Sort). l ++ others) are
     ∙ ap (λ (l : List Sort). Sort.Statement ∷ l) (split ∙ ap (λ (l : List Sort). l ++ more) is ∙ ap (λ (l : List Sort). Sort.Statement ∷ l) none)
 
-first_inside : (nodes : Forest) → sorts nodes ≡ Sort.Statement ∷ (Sort.Statement ∷ [])
+first_inside : (nodes : Forest) (sort : Sort) (beside : List Sort) → sorts nodes ≡ sort ∷ beside
     → (first : Label) × (within : Forest) × (others : Forest) × (nodes ≡ Forest.cons first within others)
-first_inside Forest.nil e = let no : 0 ≡ 2 = ap length e in absurd (omega (arith, no))
-first_inside (Forest.cons first within others) e = (first, within, others, refl)
+first_inside Forest.nil sort beside e = let no : 0 ≡ suc (length beside) = ap length e in absurd (omega (arith, no))
+first_inside (Forest.cons first within others) sort beside e = (first, within, others, refl)
 
 module _ (told : LengthsAreTold) (marks : MarkMap) (items : ItemMap) (program : Forest) (found : Site) (its : IsCodeOf marks items program found)
     (node : IsNode found.label (sorts found.inner)) (callees : List ℕ → Option Callee) (spots : PlainPlace → Option Spot) (input : List ℕ) (c : PlainConfiguration)
@@ -181,9 +181,9 @@ module _ (told : LengthsAreTold) (marks : MarkMap) (items : ItemMap) (program : 
   -- the code stands, and a run goes on behind it
   record StandsAs (kind : NodeKind) (parts : List (Option PlainPhrase)) (all one : Option PlainInstr) : Type 0 where
     has : HasAt instrs start (Whole kind parts all one)
-    ends : is_statement (sort_of kind) ≡ true → Lands instrs (start + length (Whole kind parts all one)) found.after
+    ends : goes_on_behind (sort_of kind) ≡ true → Lands instrs (start + length (Whole kind parts all one)) found.after
     begins :
-        (behind : PlainPlace) → list_any is_statement (sorts inner) ≡ true
+        (behind : PlainPlace) → list_any begins_run (sorts inner) ≡ true
         → slice_get instrs (start + (length (own_of slot declared codes kind parts all one).before + length (option_to_list (around_of slot declared codes kind parts all one).ahead)))
         ≡ Some (PlainInstr.place (begin inner behind))
     before :
@@ -313,14 +313,14 @@ module _ (told : LengthsAreTold) (marks : MarkMap) (items : ItemMap) (program : 
       by (Some other) fits stands e = absurd (none-some spot e)
 
   pub put_runs : (skip : Bool) (template : Template) (spot : Spot) → label.kind ≡ NodeKind.Filled template → parts_of (row_of (NodeKind.Filled template)).line ≡ Category.ExpressionList ∷ []
-      → (row_of (NodeKind.Filled template)).sections ≡ [] → ends_step (NodeKind.Filled template) 0 ≡ true → is_statement (sort_of (NodeKind.Filled template)) ≡ true
+      → (row_of (NodeKind.Filled template)).sections ≡ [] → ends_step (NodeKind.Filled template) 0 ≡ true → goes_on_behind (sort_of (NodeKind.Filled template)) ≡ true
       → ((part : Option PlainPhrase) (stop : Option PlainInstr)
       → code_of slot declared codes (NodeKind.Filled template) (part ∷ []) stop stop
       ≡ code_with (one_piece (piece_at slot 0 stop (listed_instrs (put_of code rest c reach skip) (listed_exprs part)))) no_jumps codes)
       → ((part : Option PlainPhrase) (stop : PlainInstr)
       → (own_of slot declared codes (NodeKind.Filled template) (part ∷ []) (Some stop) (Some stop)).before ≡ PlainInstr.place (place_at slot 0) ∷ (stop ∷ []))
       → needing (mark_of marks slot) label.parts (0 ∷ []) (put_spot skip label.parts found.after) ≡ Some spot → RunsAt (place_at slot 0) spot
-  put_runs skip template spot is line sections ends statement shape stopped e =
+  put_runs skip template spot is line sections ends goes shape stopped e =
       let (part, parts, fits) =
       one_part Category.ExpressionList label.parts
       (subst (λ (l : List Category). AreParts l label.parts) line (subst (λ (k : NodeKind). AreParts (parts_of (row_of k).line) label.parts) is node.parts)) in
@@ -336,7 +336,7 @@ module _ (told : LengthsAreTold) (marks : MarkMap) (items : ItemMap) (program : 
           let same = shape (Some (PlainPhrase.expression_list es)) None in
           let own =
           leaf piece (sections_none (NodeKind.Filled template) is sections) (subst (HasAt instrs start) same stands.has)
-          (subst (λ (l : List PlainInstr). Lands instrs (start + length l) found.after) same (stands.ends statement)) in
+          (subst (λ (l : List PlainInstr). Lands instrs (start + length l) found.after) same (stands.ends goes)) in
           let long : length work ≡ length (exprs_instrs es) + 1 = length-append (exprs_instrs es) (put_of code rest c reach skip (expr_count es) ∷ []) in
           subst (RunsAt (place_at slot 0)) (same_Some (Spot.writes skip es found.after) spot e) (
             start,
@@ -400,7 +400,7 @@ module _ (told : LengthsAreTold) (marks : MarkMap) (items : ItemMap) (program : 
           let around = around_of slot declared codes (NodeKind.Filled Template.If) (Some (PlainPhrase.condition test) ∷ []) None None in
           let long = with_length own around codes in
           let within = inside_length [] codes in
-          let some = one_statement (sorts inner) (fill_as (NodeKind.Filled Template.If) is) in
+          let some = one_begins (sorts inner) (fill_as (NodeKind.Filled Template.If) is) in
           let address : start + (length (PlainInstr.place (place_at slot 0) ∷ expr_instrs test) + 1) ≡ start + (length (expr_instrs test) + 2) = omega arith in
           subst (RunsAt (place_at slot 0)) (same_Some (Spot.tests test (begin inner found.after) found.after) spot e)
           (test_stands Template.If inner_sum (begin inner found.after) found.after test (codes_around [] codes ++ ([] ++ [])) fits.short is refl stands.has
@@ -423,7 +423,7 @@ module _ (told : LengthsAreTold) (marks : MarkMap) (items : ItemMap) (program : 
           let around = around_of slot declared codes (NodeKind.Filled Template.While) (Some (PlainPhrase.condition test) ∷ []) None None in
           let long = with_length own around codes in
           let within = inside_length [] codes in
-          let some = filled_has (sorts inner) (fill_as (NodeKind.Filled Template.While) is) in
+          let some = filled_begins Sort.Statement [] (sorts inner) refl (fill_as (NodeKind.Filled Template.While) is) in
           let address : start + (length (PlainInstr.place (place_at slot 0) ∷ expr_instrs test) + 1) ≡ start + (length (expr_instrs test) + 2) = omega arith in
           subst (RunsAt (place_at slot 0)) (same_Some (Spot.tests test (begin inner (place_at slot 0)) found.after) spot e)
           (test_stands Template.While (inner_sum + 1) (begin inner (place_at slot 0)) found.after test (codes_around [] codes ++ ([] ++ option_to_list around.back)) fits.short is refl
@@ -437,7 +437,7 @@ module _ (told : LengthsAreTold) (marks : MarkMap) (items : ItemMap) (program : 
       let (part, parts, fits) = condition_part (inr (inl is)) in
       one_needed (NodeKind.Filled Template.IfElse) part spot (test_spot label.parts (begin inner found.after) (begin (behind_first inner) found.after)) is parts refl (λ stop. refl) e
       (λ stands wanted.
-      by part fits stands (first_inside inner (two_sorts (sorts inner) (fill_as (NodeKind.Filled Template.IfElse) is)))
+      by part fits stands (first_inside inner Sort.Statement (Sort.Statement ∷ []) (two_sorts (sorts inner) (fill_as (NodeKind.Filled Template.IfElse) is)))
       (ap (λ (l : List (Option PlainPhrase)). test_spot l (begin inner found.after) (begin (behind_first inner) found.after)) (sym parts) ∙ wanted))
     where
       by : (part : Option PlainPhrase) → IsPart Category.Condition part → StandsAs (NodeKind.Filled Template.IfElse) (part ∷ []) None None
@@ -445,7 +445,7 @@ module _ (told : LengthsAreTold) (marks : MarkMap) (items : ItemMap) (program : 
           → test_spot (part ∷ []) (begin inner found.after) (begin (behind_first inner) found.after) ≡ Some spot → RunsAt (place_at slot 0) spot
       by None fits stands two e = absurd (none-some spot e)
       by (Some (PlainPhrase.condition test)) fits stands (first, within, others, two) e =
-          let some = ap (list_any is_statement) (two_sorts (sorts inner) (fill_as (NodeKind.Filled Template.IfElse) is)) in
+          let some = ap (list_any begins_run) (two_sorts (sorts inner) (fill_as (NodeKind.Filled Template.IfElse) is)) in
           let address : start + (length (PlainInstr.place (place_at slot 0) ∷ expr_instrs test) + 1) ≡ start + (length (expr_instrs test) + 2) = omega arith in
           let d : ℕ = first_length (map length codes) + 1 in
           let second = its.seconds first within others found.after is two in
@@ -498,11 +498,11 @@ module _ (told : LengthsAreTold) (marks : MarkMap) (items : ItemMap) (program : 
       has_both instrs (start + 1) (start + 1 + length one) one (two ++ (three ++ (enter ∷ []))) refl (has_first instrs (start + 1) one (two ++ three) works)
       (has_both instrs (start + 1 + length one) (start + 1 + length one + length two) two (three ++ (enter ∷ [])) refl (has_first instrs (start + 1 + length one) two three rest_has)
       (has_both instrs (start + 1 + length one + length two) (start + 1 + length work) three (enter ∷ []) (omega (arith, a, b)) last_has (entry.0, tt))) in
-      let some = filled_has (sorts inner) (fill_as (NodeKind.Filled Template.For) is) in
+      let some = filled_begins Sort.Statement [] (sorts inner) refl (fill_as (NodeKind.Filled Template.For) is) in
       let inside : slice_get instrs next ≡ Some (PlainInstr.place (begin inner (place_at slot 1))) = ap (slice_get instrs) (omega arith) ∙ stands.begins (place_at slot 1) some in (
         start,
         its.addressed 0 start (ap (λ (k : NodeKind). ends_step k 0) is) stands.has.0,
-        begins_run code rest c reach slot name first limit step (begin inner (place_at slot 1)) found.after (pos (inner_sum + 2)) (length instrs) (start + 1) next target all_has
+        enters_run code rest c reach slot name first limit step (begin inner (place_at slot 1)) found.after (pos (inner_sum + 2)) (length instrs) (start + 1) next target all_has
             (omega (arith, a, b)) (omega (arith, ints)) (omega arith) loops (lands_here instrs next (begin inner (place_at slot 1)) inside)
             (subst (λ (n : ℕ). Lands instrs n found.after) (omega (arith, long, within)) (stands.ends refl)) (omega arith) short shorter shortest,
       )
@@ -581,7 +581,7 @@ module _ (told : LengthsAreTold) (marks : MarkMap) (items : ItemMap) (program : 
           let has = end_has (NodeKind.Filled Template.For) parts all None stands in
           let long = with_length own around codes in
           let within = inside_length [] codes in
-          let some = filled_has (sorts inner) (fill_as (NodeKind.Filled Template.For) is) in
+          let some = filled_begins Sort.Statement [] (sorts inner) refl (fill_as (NodeKind.Filled Template.For) is) in
           let target : ℕ = start + (length own.before + length (option_to_list around.ahead)) in
           let beside : Lands instrs (at + 1 + 1) found.after = subst (λ (n : ℕ). Lands instrs n found.after) (omega (arith, long)) (stands.ends refl) in
           let few = beside.few in
@@ -759,7 +759,7 @@ module _ (told : LengthsAreTold) (marks : MarkMap) (items : ItemMap) (program : 
         start + length whole,
         its.backs (ap is_call is),
         omega (arith, long),
-        its.ends (ap (λ (k : NodeKind). is_statement (sort_of k)) is),
+        its.ends (ap (λ (k : NodeKind). goes_on_behind (sort_of k)) is),
       )
 
   -- the end of a procedure

@@ -17,10 +17,10 @@ use Rattle.plcs_base.specs.declared.declared.Declared.{Declared}
 use Rattle.plcs_grammar.specs.declared.node_kind.NodeKind.{NodeKind}
 use Rattle.plcs_grammar.specs.declared.node_kind.Sort.{Sort}
 use Rattle.plcs_grammar.specs.declared.template.Template.{Template}
-use Rattle.plcs_grammar.specs.Template.{list_of, procedure_sections, program_sections, row_of}
+use Rattle.plcs_grammar.specs.Template.{PlainSection, list_of, procedure_sections, program_sections, row_of}
 use Rattle.template_tree.specs.Checks.Environment.{items_inside, procedure_at}
 use Rattle.template_tree.specs.Checks.ProgramMaps.{ScopeTells, items_in}
-use Rattle.template_tree.specs.Positions.Place.{PlainPlace, Site, begin, end_at, in_turn, inner_end, is_statement, place_at, site, site_among}
+use Rattle.template_tree.specs.Positions.Place.{PlainPlace, Site, begin, begins_run, end_at, in_turn, inner_end, place_at, site, site_among}
 use Rattle.template_tree.specs.Programs.PlainTree.{Forest, Label, PlainNode}
 use Rattle.template_tree.specs.Programs.Program.{Fill, IsProgram, sort_of, sorts}
 use Rattle.template_tree.specs.Programs.Slots.{first_slot}
@@ -86,27 +86,31 @@ main_first : (items : List Sort) → Fill program_sections items → first_is_ma
 main_first items (own, others, same, are, rest) =
     ap first_is_main same ∙ ap (λ (front : List Sort). first_is_main (front ++ others)) are
 
--- ---- a procedure has a statement
+-- ---- in a procedure a run begins
 
 or_right : (one other : Bool) → other ≡ true → (one || other) ≡ true
 or_right true other e = refl
 or_right false other e = e
 
-any_behind : (own others : List Sort) → list_any is_statement others ≡ true → list_any is_statement (own ++ others) ≡ true
+any_behind : (own others : List Sort) → list_any begins_run others ≡ true → list_any begins_run (own ++ others) ≡ true
 any_behind [] others e = e
-any_behind (sort ∷ own) others e = or_right (is_statement sort) (list_any is_statement (own ++ others)) (any_behind own others e)
+any_behind (sort ∷ own) others e = or_right (begins_run sort) (list_any begins_run (own ++ others)) (any_behind own others e)
 
-list_has : (own others : List Sort) → 1 ≤ length own
-    → ((k : ℕ) (d : Sort) → k < length own → slice_index_or own k d ≡ Sort.Statement) → list_any is_statement (own ++ others) ≡ true
-list_has [] others some all = absurd (omega (arith, some))
-list_has (sort ∷ own) others some all =
-    ap (λ (first : Sort). is_statement first || list_any is_statement (own ++ others)) (all 0 Sort.Statement (omega arith))
+list_begins : (sort : Sort) (own others : List Sort) → begins_run sort ≡ true → 1 ≤ length own
+    → ((k : ℕ) (d : Sort) → k < length own → slice_index_or own k d ≡ sort) → list_any begins_run (own ++ others) ≡ true
+list_begins sort [] others begins some all = absurd (omega (arith, some))
+list_begins sort (first ∷ own) others begins some all =
+    ap (λ (b : Bool). b || list_any begins_run (own ++ others)) (ap begins_run (all 0 sort (omega arith)) ∙ begins)
 
-pub filled_has : (items : List Sort) → Fill (list_of Sort.Statement ∷ []) items → list_any is_statement items ≡ true
-filled_has items (own, others, same, are, none) = ap (list_any is_statement) same ∙ list_has own others are.0 are.1
+-- at one of what stands in a list a run begins, if it does at nodes of the sort
+pub filled_begins : (sort : Sort) (sections : List PlainSection) (items : List Sort) → begins_run sort ≡ true → Fill (list_of sort ∷ sections) items
+    → list_any begins_run items ≡ true
+filled_begins sort sections items begins (own, others, same, are, more) =
+    ap (list_any begins_run) same ∙ list_begins sort own others begins are.0 are.1
 
-pub procedure_has : (items : List Sort) → Fill procedure_sections items → list_any is_statement items ≡ true
-procedure_has items (own, others, same, are, rest) = ap (list_any is_statement) same ∙ any_behind own others (filled_has others rest)
+pub procedure_begins : (items : List Sort) → Fill procedure_sections items → list_any begins_run items ≡ true
+procedure_begins items (own, others, same, are, rest) =
+    ap (list_any begins_run) same ∙ any_behind own others (filled_begins Sort.Statement [] others refl rest)
 
 -- the site of a slot that isn't that of the first node
 abbrev site_beside : Label → (inner rest : Forest) → Option Site
@@ -187,7 +191,7 @@ module _ (bodies : BodiesBegin) where
       let fill : Fill procedure_sections (sorts inner) =
       subst (λ (k : NodeKind). Fill (row_of k).sections (sorts inner)) kind is.sound.0.inner in
       let place : PlainPlace = begin inner (place_at label.slot 1) in
-      let begins = bodies marks items program 0 found (place_at label.slot 1) is at_site (procedure_has (sorts inner) fill) in
+      let begins = bodies marks items program 0 found (place_at label.slot 1) is at_site (procedure_begins (sorts inner) fill) in
       let entries = flat_map span_by_slot (node_spans marks items 0 0 program) in
       let span : get (Gen marks items program).spans 0 ≡ Some (0, length_around marks items label (node_lengths marks items inner)) =
       get-from_entries nat_cmp_total entries 0 ∙ own_span marks items label inner rest slot kind in

@@ -3,7 +3,7 @@
 pub mod ChangedItems
 -- what holds of what the parts of a step give
 pub mod Outcomes
--- where a run goes on behind a statement, and among what stands inside it
+-- where a run goes on behind a node, and among what stands inside it
 pub mod GoingOn
 -- what is called
 pub mod Callees

@@ -9,7 +9,7 @@ use Rattle.plcs_grammar.specs.declared.node_kind.NodeKind.{NodeKind}
 use Rattle.plcs_grammar.specs.declared.node_kind.Sort.{Sort}
 use Rattle.plcs_grammar.specs.declared.template.Template.{Template}
 use Rattle.plcs_grammar.specs.Template.{program_sections}
-use Rattle.template_tree.specs.Positions.Place.{is_statement}
+use Rattle.template_tree.specs.Positions.Place.{begins_run}
 use Rattle.template_tree.specs.Programs.PlainTree.{Forest}
 use Rattle.template_tree.specs.Programs.Program.{Fill, sort_of, sorts}
 use Rattle.template_tree.specs.Programs.Slots.{depth}
@@ -19,7 +19,7 @@ use Rattle.plcs_store.specs.declared.kept_loop.KeptLoop.{KeptLoop}
 use Rattle.plcs_store.specs.Configuration.{frame_place}
 use Rattle.plcs_store.specs.Fits.{loops_at}
 use Rattle.plcs_store.specs.StepLaws.{FittingLoopsHaveRoom}
-use Rattle.plcs_store.proofs.FirstPlace.{has_statement}
+use Rattle.plcs_store.proofs.FirstPlace.{begins_among}
 use Rattle.plcs_store.proofs.KeptFit.FittingFrames.{FrameFits, fitting_frames, of_each}
 
 -- ---- loops of one node
@@ -32,12 +32,12 @@ one_loop : (kind : NodeKind) (slot : ℕ) → length (loop_by_kind kind slot) �
 one_loop (NodeKind.Filled template) slot = one_by_template template slot
 one_loop other slot = omega arith
 
-template_no_loop : (template : Template) (slot : ℕ) → is_statement (sort_of (NodeKind.Filled template)) ≡ false → loop_by_template template slot ≡ []
+template_no_loop : (template : Template) (slot : ℕ) → begins_run (sort_of (NodeKind.Filled template)) ≡ false → loop_by_template template slot ≡ []
 template_no_loop Template.For slot e = absurd (false≢true (sym e))
 template_no_loop other slot e = refl
 
--- what is no statement is no loop
-no_loop : (kind : NodeKind) (slot : ℕ) → is_statement (sort_of kind) ≡ false → loop_by_kind kind slot ≡ []
+-- a run begins at each loop
+no_loop : (kind : NodeKind) (slot : ℕ) → begins_run (sort_of kind) ≡ false → loop_by_kind kind slot ≡ []
 no_loop (NodeKind.Filled template) slot e = template_no_loop template slot e
 no_loop other slot e = refl
 
@@ -66,40 +66,40 @@ either : (one other : Bool) → (one || other) ≡ false → (one ≡ false) × 
 either true other e = absurd (false≢true (sym e))
 either false other e = (refl, e)
 
--- where none of the outermost nodes is a statement
-fewer_loops : (items : Forest) (slot : ℕ) (kind : NodeKind) (around : Around) → has_statement (sorts items) ≡ false
+-- where a run begins at none of the outermost nodes
+fewer_loops : (items : Forest) (slot : ℕ) (kind : NodeKind) (around : Around) → begins_among (sorts items) ≡ false
     → StandsBelow [] items slot kind around → loops_to kind slot around < depth items
 fewer_loops Forest.nil slot kind around none stands = absurd stands
 fewer_loops (Forest.cons label inner rest) slot kind around none (inl here) =
-    let own : loop_by_kind label.kind slot ≡ [] = no_loop label.kind slot (either (is_statement (sort_of label.kind)) (has_statement (sorts rest)) none).0 in
+    let own : loop_by_kind label.kind slot ≡ [] = no_loop label.kind slot (either (begins_run (sort_of label.kind)) (begins_among (sorts rest)) none).0 in
     let outside : length (loops_around around) ≡ 0 = sym (ap (λ (a : Around). length (loops_around a)) here.2) in
     let inside : length (loop_by_kind kind slot) ≡ 0 = sym (ap (λ (k : NodeKind). length (loop_by_kind k slot)) here.1) ∙ ap length own in
     omega (arith, outside, inside)
 fewer_loops (Forest.cons label inner rest) slot kind around none (inr (inl below)) =
     let own : loop_by_kind label.kind label.slot ≡ [] =
-    no_loop label.kind label.slot (either (is_statement (sort_of label.kind)) (has_statement (sorts rest)) none).0 in
+    no_loop label.kind label.slot (either (begins_run (sort_of label.kind)) (begins_among (sorts rest)) none).0 in
     let outside : length (loops_around ((label.slot, label.kind) ∷ [])) ≡ 0 = ap length own in
     let deeper = few_loops ((label.slot, label.kind) ∷ []) inner slot kind around below in
     omega (arith, outside, deeper)
 fewer_loops (Forest.cons label inner rest) slot kind around none (inr (inr beside)) =
     let others =
-    fewer_loops rest slot kind around (either (is_statement (sort_of label.kind)) (has_statement (sorts rest)) none).1 beside in
+    fewer_loops rest slot kind around (either (begins_run (sort_of label.kind)) (begins_among (sorts rest)) none).1 beside in
     omega (arith, others)
 
 -- ---- a program
 
-procedures : (own : List Sort) → ((k : ℕ) (d : Sort) → k < length own → slice_index_or own k d ≡ Sort.Procedure) → has_statement (own ++ []) ≡ false
+procedures : (own : List Sort) → ((k : ℕ) (d : Sort) → k < length own → slice_index_or own k d ≡ Sort.Procedure) → begins_among (own ++ []) ≡ false
 procedures [] all = refl
 procedures (sort ∷ own) all =
-    ap (λ (s : Sort). is_statement s || has_statement (own ++ [])) (all 0 Sort.Procedure (omega arith))
+    ap (λ (s : Sort). begins_run s || begins_among (own ++ [])) (all 0 Sort.Procedure (omega arith))
     ∙ procedures own (λ k d few. all (suc k) d (omega (arith, few)))
 
--- main and procedures are no statements
-no_statement : (items : List Sort) → Fill program_sections items → has_statement items ≡ false
-no_statement items (main, others, same, is_main, (own, last, are, all, none)) =
-    ap has_statement same
-    ∙ (ap (λ (first : List Sort). has_statement (first ++ others)) is_main
-    ∙ (ap has_statement are ∙ (ap (λ (rest : List Sort). has_statement (own ++ rest)) none ∙ procedures own all.1)))
+-- a run that comes to nodes in order begins at neither main nor procedures
+none_begins : (items : List Sort) → Fill program_sections items → begins_among items ≡ false
+none_begins items (main, others, same, is_main, (own, last, are, all, none)) =
+    ap begins_among same
+    ∙ (ap (λ (first : List Sort). begins_among (first ++ others)) is_main
+    ∙ (ap begins_among are ∙ (ap (λ (rest : List Sort). begins_among (own ++ rest)) none ∙ procedures own all.1)))
 
 -- ---- the loops of a frame
 
@@ -109,7 +109,7 @@ few_at true kind slot around = let all = length-append (loops_around around) (lo
 few_at false kind slot around = let all : length (loops_around around ++ []) ≡ length (loops_around around) + 0 = length-append (loops_around around) [] in omega (arith, all)
 
 -- a frame that fits keeps the loops in which its place stands
-frame_few : (program : Forest) (waits : Bool) (frame : Frame) → has_statement (sorts program) ≡ false → FrameFits program waits frame
+frame_few : (program : Forest) (waits : Bool) (frame : Frame) → begins_among (sorts program) ≡ false → FrameFits program waits frame
     → length frame.loops < depth program
 frame_few program waits frame none fits =
     let (kind, around, at) = fits.stands in
@@ -124,7 +124,7 @@ pub loops_have_room : FittingLoopsHaveRoom
 loops_have_room tree c number frame is fits there =
     let few : length frame.loops < depth tree.items =
     of_each tree.items c.frames (λ one. length one.loops < depth tree.items) (fitting_frames tree.items c fits)
-    (λ waits one fit. frame_few tree.items waits one (no_statement (sorts tree.items) is.program.listed) fit) number frame there in
+    (λ waits one fit. frame_few tree.items waits one (none_begins (sorts tree.items) is.program.listed) fit) number frame there in
     let shallow : depth tree.items ≤ 64 = is.shallow in
     let fewer : length frame.loops < 64 = omega (arith, few, shallow) in
     fewer

@@ -1,4 +1,4 @@
--- A new run of a tree fits it: its one frame is of main, at the first statement there.
+-- A new run of a tree fits it: its one frame is of main, where a run begins there.
 use Rattle.std.specs.Prelude.{◌≡◌, refl, ℕ, zero, suc, ◌≤◌, ◌==◌, ◌&&◌, ◌||◌, Bool, true, false, if◌then◌else◌, List, [], ◌∷◌, ◌++◌, map, slice_get, IsTrue, Option, Some, option_map, unwrap_or, All}
 use Rattle.std.proofs.Common.{ap, sym, ◌∙◌, subst, arith, inl, inr}
 use Rattle.std.proofs.Math.Bool.{false≢true}
@@ -10,7 +10,7 @@ use Rattle.plcs_grammar.specs.declared.node_kind.Sort.{Sort}
 use Rattle.plcs_grammar.specs.declared.template.Template.{Template}
 use Rattle.plcs_grammar.specs.Template.{program_sections, row_of}
 use Rattle.template_tree.specs.Checks.Environment.{Items, items_inside, kind_of_type, procedure_at}
-use Rattle.template_tree.specs.Positions.Place.{PlainPlace, Site, begin, has_point, is_statement, place_at, place_exists_at}
+use Rattle.template_tree.specs.Positions.Place.{PlainPlace, Site, begin, has_point, has_start, place_at, place_exists_at}
 use Rattle.template_tree.specs.Programs.PlainTree.{Forest, Label, PlainNode}
 use Rattle.template_tree.specs.Programs.Program.{Fill, IsProgram, sort_of, sorts}
 use Rattle.template_tree.specs.Programs.Slots.{times}
@@ -25,7 +25,7 @@ use Rattle.plcs_store.specs.CellAt.{unset_named, variable_named}
 use Rattle.plcs_store.specs.Fits.{AreVariables, Fits, HasLoops, HoldsRight, ValuesFit, is_waiting_place, loops_at}
 use Rattle.plcs_store.specs.NewFrame.{First, new_frame}
 use Rattle.plcs_store.specs.StepLaws.{NewRunsFit}
-use Rattle.plcs_store.proofs.FirstPlace.{BeginsIn, begins_in, procedure_has}
+use Rattle.plcs_store.proofs.FirstPlace.{BeginsIn, begins_in, procedure_begins}
 use Rattle.plcs_store.proofs.NewCells.{names_distinct, unset_cell, unset_found, unset_variables}
 
 -- ---- main is the first node
@@ -61,13 +61,14 @@ template_starts_no_wait : (template : Template) → is_waiting_place (NodeKind.F
 template_starts_no_wait Template.Call = refl
 template_starts_no_wait other = refl
 
--- no start of a statement waits
+-- no start waits
 pub starts_no_wait : (kind : NodeKind) → is_waiting_place kind 0 ≡ false
 starts_no_wait (NodeKind.Filled template) = template_starts_no_wait template
 starts_no_wait other = refl
 
-statement_starts : (sort : Sort) (others : Bool) → sort ≡ Sort.Statement → IsTrue ((is_statement sort && true) || others)
-statement_starts sort others e = ap (λ (one : Sort). (is_statement one && true) || others) e
+-- what has a start has a place at point 0
+pub start_point : (sort : Sort) (others : Bool) → has_start sort ≡ true → IsTrue ((has_start sort && true) || others)
+start_point sort others e = ap (λ (starts : Bool). (starts && true) || others) e
 
 -- the variables of the frame are those of main
 own_items : (label : Label) (inner rest : Forest) → Items (Forest.cons label inner rest) label.slot ≡ items_inside inner
@@ -86,8 +87,8 @@ unset_values frame items cells (suc k) element name variable cell there held = a
 module _ (found : SitesStand) (standing : StandingSlotsHaveSites) (others : OthersBeginThemselves) (once : SlotsStandOnce) where
   -- a place where a run begins is one of the program
   begins_exist : (items : Forest) (place : PlainPlace) (kind : NodeKind) (around : Around) → times place.slot items ≤ 1
-      → place.point ≡ 0 → StandsInside items place.slot kind around → sort_of kind ≡ Sort.Statement → HasPlace items place
-  begins_exist items place kind around few start stands sort =
+      → place.point ≡ 0 → StandsInside items place.slot kind around → has_start (sort_of kind) ≡ true → HasPlace items place
+  begins_exist items place kind around few start stands starts =
       let has = standing items place.slot kind around stands in
       let one : Site = has.0 in
       let there = found items place.slot one has.1 in
@@ -95,7 +96,8 @@ module _ (found : SitesStand) (standing : StandingSlotsHaveSites) (others : Othe
       let marked : Bool = is_first_marked items place.slot in
       subst (λ (site : Option Site). IsTrue (place_exists_at marked site place.point)) (sym has.1)
       (subst (λ (point : ℕ). IsTrue (place_exists_at marked (Some one) point)) (sym start)
-      (statement_starts (sort_of one.label.kind) (has_point marked one.label one.label.kind 0) (ap sort_of same.0 ∙ sort)))
+      (start_point (sort_of one.label.kind) (has_point marked one.label one.label.kind 0)
+      (ap (λ (own : NodeKind). has_start (sort_of own)) same.0 ∙ starts)))
 
   -- the loops round the first place of main are none
   no_loops : (items : Forest) (place : PlainPlace) (kind : NodeKind) (around : Around) → times place.slot items ≤ 1
@@ -128,7 +130,7 @@ module _ (found : SitesStand) (standing : StandingSlotsHaveSites) (others : Othe
                   begins.within,
                   record {
                     stands = stands;
-                    exists = begins_exist items place begins.kind begins.within (few place.slot) begins.start stands begins.statement;
+                    exists = begins_exist items place begins.kind begins.within (few place.slot) begins.start stands begins.starts;
                     procedure = begins.procedure;
                     waiting = ap (is_waiting_place begins.kind) begins.start ∙ starts_no_wait begins.kind;
                   },
@@ -155,7 +157,7 @@ module _ (found : SitesStand) (standing : StandingSlotsHaveSites) (others : Othe
       let main : label.kind ≡ NodeKind.Main = main_kind label.kind (main_first (sorts (Forest.cons label inner rest)) program.listed) in
       main_fits label inner rest few main
       (begins_in (label.slot, label.kind) [] inner (place_at label.slot 1) program.sound.1
-      (procedure_has (sorts inner)
+      (procedure_begins (sorts inner)
       (subst (λ (kind : NodeKind). Fill (row_of kind).sections (sorts inner)) main program.sound.0.inner)))
 
   pub new_runs_fit : NewRunsFit

@@ -4,7 +4,7 @@ use Rattle.std.specs.Prelude.{◌≡◌, refl, ℕ, ◌==◌, Bool, true, false,
 use Rattle.std.proofs.Common.{ap, sym, ◌∙◌}
 use Rattle.plcs_base.specs.declared.declared.Declared.{Declared}
 use Rattle.template_tree.specs.Checks.Environment.{all_declared, declares, effective, items_inside, procedure_at}
-use Rattle.template_tree.specs.Positions.Place.{PlainPlace, begin, is_statement, passes_in, place_at}
+use Rattle.template_tree.specs.Positions.Place.{PlainPlace, begin, begins_run, passes_in, place_at}
 use Rattle.template_tree.specs.Programs.PlainTree.{Forest, PlainNode, roomless}
 use Rattle.template_tree.specs.Programs.Program.{sort_of}
 use Rattle.tree_steps.specs.EditStep.{substance}
@@ -26,7 +26,7 @@ inside_same inner = ap (effective []) (declared_same inner)
 pub begin_same : (items : Forest) (behind : PlainPlace) → begin (substance items) behind ≡ begin items behind
 begin_same Forest.nil behind = refl
 begin_same (Forest.cons label inner rest) behind =
-    λ i. if is_statement (sort_of label.kind)
+    λ i. if begins_run (sort_of label.kind)
     then (if passes_in label.kind then begin_same inner behind i else place_at label.slot 0)
     else begin_same rest behind i
 

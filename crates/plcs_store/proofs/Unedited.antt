@@ -1,10 +1,10 @@
 -- `unedited_may_resume`: what was kept of a program differs nowhere from it.
-use Rattle.std.specs.Prelude.{◌≡◌, List, [], ◌∷◌, map, Some, None, option_map}
+use Rattle.std.specs.Prelude.{◌≡◌, List, [], ◌∷◌, map, Option, Some, None, option_map}
 use Rattle.std.proofs.Common.{ap, sym, ◌∙◌, refl, subst, inl, inr}
 use Rattle.std.proofs.lemmas.Option.{none-some}
 use Rattle.plcs_base.specs.declared.declared.Declared.{Declared}
 use Rattle.template_tree.specs.Checks.Environment.{Items}
-use Rattle.template_tree.specs.Positions.Place.{Site}
+use Rattle.template_tree.specs.Positions.Place.{Site, site}
 use Rattle.template_tree.specs.Programs.PlainTree.{Forest}
 use Rattle.plcs_store.specs.declared.frame.Frame.{Frame}
 use Rattle.plcs_store.specs.declared.held_template.HeldTemplate.{HeldTemplate}
@@ -31,11 +31,26 @@ same_tail a b xs ys e = ap tail e
 no_item : {A : Type 0} (a : A) (xs : List A) → (a ∷ xs) ≡ [] → ⊥
 no_item a xs e = subst is_empty (sym e) tt
 
+abbrev held_of : Site → HeldTemplate
+held_of found = record { kind = found.label.kind; parts = found.label.parts }
+
+-- of what stands in the slot the kind and the parts are those that are held
+kind_same : (found : Option Site) → option_map (λ (one : Site). one.label.kind) found ≡ option_map (λ (held : HeldTemplate). held.kind) (option_map held_of found)
+kind_same None = refl
+kind_same (Some found) = refl
+
+parts_same : (found : Option Site) → option_map (λ (one : Site). one.label.parts) found ≡ option_map (λ (held : HeldTemplate). held.parts) (option_map held_of found)
+parts_same None = refl
+parts_same (Some found) = refl
+
 same_template : (program : Forest) (frame : Frame) (template : HeldTemplate)
     → template_held program frame.place.slot.0 ≡ Some template → ¬ (TemplateDiffers program frame template)
 same_template program frame template same (inl gone) =
-    none-some template (sym (ap (option_map (λ (found : Site). record { kind = found.label.kind; parts = found.label.parts })) gone) ∙ same)
-same_template program frame template same (inr differs) = differs.1 same
+    none-some template (sym (ap (option_map held_of) gone) ∙ same)
+same_template program frame template same (inr (inl differs)) =
+    differs.1 (kind_same (site program frame.place.slot.0) ∙ ap (option_map (λ (held : HeldTemplate). held.kind)) same)
+same_template program frame template same (inr (inr differs)) =
+    differs.1 (parts_same (site program frame.place.slot.0) ∙ ap (option_map (λ (held : HeldTemplate). held.parts)) same)
 
 nothing_asked : (program : Forest) (frames : List Frame) (headings : List Parts) (declared : List (List Declared)) (held : List HeldTemplate)
     → map (λ (frame : Frame). heading_parts program frame.procedure.0) frames ≡ map Some headings

@@ -60,11 +60,28 @@ HeadingDiffers program frame kept = heading_parts program frame.procedure.0 ≢ 
 abbrev pub ItemsDiffer : (program : Forest) → Frame → List Declared → Type 0
 ItemsDiffer program frame kept = Items program frame.procedure.0 ≢ kept
 
--- the slot of its place is gone, or its point isn't the start and what stands in the slot is another template
+-- the kind of what stands in the slot, if it is live
+abbrev pub kind_held : (program : Forest) → (slot : ℕ) → Option NodeKind
+kind_held program slot = option_map (λ found. found.label.kind) (site program slot)
+
+-- the parts of what stands in the slot, if it is live
+abbrev pub parts_held : (program : Forest) → (slot : ℕ) → Option Parts
+parts_held program slot = option_map (λ found. found.label.parts) (site program slot)
+
+-- the frame's place isn't the start of its slot, and what stands there is of another kind
+abbrev pub KindDiffers : (program : Forest) → Frame → HeldTemplate → Type 0
+KindDiffers program frame kept =
+    (frame.place.point.0 ≢ 0) × (kind_held program frame.place.slot.0 ≢ Some kept.kind)
+
+-- the frame's place isn't the start of its slot, and what stands there has other parts
+abbrev pub PartsDiffer : (program : Forest) → Frame → HeldTemplate → Type 0
+PartsDiffer program frame kept =
+    (frame.place.point.0 ≢ 0) × (parts_held program frame.place.slot.0 ≢ Some kept.parts)
+
+-- the slot of the frame's place is gone, or what stands there is of another kind or has other parts
 abbrev pub TemplateDiffers : (program : Forest) → Frame → HeldTemplate → Type 0
 TemplateDiffers program frame kept =
-    (site program frame.place.slot.0 ≡ None)
-    ⊎ ((frame.place.point.0 ≢ 0) × (template_held program frame.place.slot.0 ≢ Some kept))
+    (site program frame.place.slot.0 ≡ None) ⊎ (KindDiffers program frame kept ⊎ PartsDiffer program frame kept)
 
 -- ---- the answer
 

@@ -9,16 +9,18 @@ use Rattle.template_tree.specs.Programs.PlainTree.{Forest}
 use Rattle.plcs_store.specs.declared.frame.Frame.{Frame}
 use Rattle.plcs_store.specs.declared.held_template.HeldTemplate.{HeldTemplate}
 use Rattle.plcs_store.specs.declared.refusal.ResumeRefusal.{ResumeRefusal}
-use Rattle.plcs_store.specs.Resume.{Asks, AsksFrame, AsksFrames, HeadingDiffers, ItemsDiffer, Parts, TemplateDiffers, template_held}
+use Rattle.plcs_store.specs.Resume.{Asks, AsksFrame, AsksFrames, HeadingDiffers, ItemsDiffer, Parts, TemplateDiffers, kind_held, parts_held, template_held}
+use Rattle.resume_rule.proofs.HeldTemplates.{kind_is, parts_are}
 use Rattle.resume_rule.proofs.SettledEquations.{head_or, items_settled, tail}
 
 -- the rule refuses nothing of a frame that stood in the earlier program: its items are as they were, its slot is live,
--- and at a point other than the start the template there can't differ
+-- and at a point other than the start neither the kind of what stands there nor its parts can differ
 pub record IsAllowed (earlier later : Forest) (frame : Frame) : Type 0 where
   pub items : Items later frame.procedure.0 ≡ Items earlier frame.procedure.0
   pub live : (found : Site) × (site later frame.place.slot.0 ≡ Some found)
-  pub template :
-      (frame.place.point.0 ≡ 0 → ⊥) → ¬ (¬ (template_held later frame.place.slot.0 ≡ template_held earlier frame.place.slot.0))
+  pub kind : (frame.place.point.0 ≡ 0 → ⊥) → ¬ (¬ (kind_held later frame.place.slot.0 ≡ kind_held earlier frame.place.slot.0))
+  pub parts :
+      (frame.place.point.0 ≡ 0 → ⊥) → ¬ (¬ (parts_held later frame.place.slot.0 ≡ parts_held earlier frame.place.slot.0))
 
 -- where a question isn't answered by its refusal, it doesn't hold, and more is asked
 passed : (question : Type 0) (refusal : ResumeRefusal) (more : Option ResumeRefusal → Type 0) → Asks question refusal more None
@@ -49,7 +51,12 @@ allowed_frame earlier later frame items template items_are template_is same_item
     record {
       items = items_settled (Items later frame.procedure.0) items same_items ∙ sym items_are;
       live = by (site later frame.place.slot.0) refl;
-      template = λ other differs. same_template (inr (other, λ e. differs (e ∙ sym template_is)));
+      kind =
+          λ other differs.
+          same_template (inr (inl (other, λ e. differs (e ∙ sym (kind_is earlier frame.place.slot.0 template template_is)))));
+      parts =
+          λ other differs.
+          same_template (inr (inr (other, λ e. differs (e ∙ sym (parts_are earlier frame.place.slot.0 template template_is)))));
     }
   where
     by : (got : Option Site) → site later frame.place.slot.0 ≡ got → (found : Site) × (site later frame.place.slot.0 ≡ Some found)

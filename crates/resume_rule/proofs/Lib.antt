@@ -4,10 +4,14 @@ pub mod ComparedLists
 pub mod FoundSlots
 -- `has_items`: the items of a procedure, and that they can be numbered
 pub mod FewItems
+-- `template_differs`
+pub mod LiveTemplates
 -- `may_resume`: one answer is right, that of the questions one after the other
 pub mod AnsweredQuestions
 -- `resumed_runs_fit`: what can't differ is the same
 pub mod SettledEquations
+-- where the same is held of a slot in two programs, the kind is the same, and the parts are
+pub mod HeldTemplates
 -- `resumed_runs_fit`: what a yes says of each frame
 pub mod AllowedFrames
 -- `resumed_runs_fit`: where a frame stood it stands

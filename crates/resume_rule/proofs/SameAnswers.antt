@@ -11,8 +11,8 @@ use Rattle.plcs_store.specs.declared.frame.Frame.{Frame}
 use Rattle.plcs_store.specs.declared.held_template.HeldTemplate.{HeldTemplate}
 use Rattle.plcs_store.specs.declared.refusal.ResumeRefusal.{ResumeRefusal}
 use Rattle.plcs_store.specs.Resume.{Asks, AsksFrames, HeadingDiffers, ItemsDiffer, Parts, TemplateDiffers, UneditedResumes, heading_parts, template_held}
-use Rattle.resume_rule.specs.ResumeAnswer.{held_of_label}
 use Rattle.resume_rule.specs.ResumeLaws.{AnswersFollowFrames, ChangedBackResumes}
+use Rattle.resume_rule.proofs.HeldTemplates.{kind_same, parts_same}
 use Rattle.resume_rule.proofs.SettledEquations.{head_or, tail}
 
 -- a question that holds of the same, before what is asked then
@@ -22,19 +22,22 @@ asked_of_same one other refusal more others answer to back on (inl told) = inl (
 asked_of_same one other refusal more others answer to back on (inr told) = inr ((λ holds. told.0 (back holds)), on told.1)
 
 -- no node is found in the other program either
-gone_in_other : (one other : Option Site) → option_map (λ found. held_of_label found.label) one ≡ option_map (λ found. held_of_label found.label) other
+gone_in_other : (one other : Option Site) → option_map (λ found. found.label.kind) one ≡ option_map (λ found. found.label.kind) other
     → one ≡ None → other ≡ None
 gone_in_other one None same gone = refl
 gone_in_other one (Some found) same gone =
-    absurd
-    (none-some (held_of_label found.label) (sym (ap (option_map (λ (found : Site). held_of_label found.label)) gone) ∙ same))
+    absurd (none-some found.label.kind (sym (ap (option_map (λ (found : Site). found.label.kind)) gone) ∙ same))
 
 template_of_same : (one other : Forest) (frame : Frame) (template : HeldTemplate)
     → template_held one frame.place.slot.0 ≡ template_held other frame.place.slot.0
     → TemplateDiffers one frame template → TemplateDiffers other frame template
 template_of_same one other frame template same (inl gone) =
-    inl (gone_in_other (site one frame.place.slot.0) (site other frame.place.slot.0) same gone)
-template_of_same one other frame template same (inr differs) = inr (differs.0, λ e. differs.1 (same ∙ e))
+    inl
+    (gone_in_other (site one frame.place.slot.0) (site other frame.place.slot.0) (kind_same one other frame.place.slot.0 same) gone)
+template_of_same one other frame template same (inr (inl kind)) =
+    inr (inl (kind.0, λ e. kind.1 (kind_same one other frame.place.slot.0 same ∙ e)))
+template_of_same one other frame template same (inr (inr parts)) =
+    inr (inr (parts.0, λ e. parts.1 (parts_same one other frame.place.slot.0 same ∙ e)))
 
 frames_asked : (one other : Forest) (answer : Option ResumeRefusal) (frames : List Frame) (headings : List Parts) (declared : List (List Declared))
     (held : List HeldTemplate)

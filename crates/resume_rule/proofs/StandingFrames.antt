@@ -1,6 +1,7 @@
 -- `resumed_runs_fit`: where a frame stood in the earlier tree, it stands in the later one.
--- Its slot is live in both, so that the same nodes are around it. What else a place asks for is told by the template in
--- its slot, which can't differ, but at a start; there each of it is as in any template.
+-- Its slot is live in both, so that the same nodes are around it. What else a place asks for is told by the kind of what
+-- stands in its slot, and of a GET by its parts, which can't differ, but at a start; there each of it is as in any
+-- template.
 use Rattle.std.specs.Prelude.{◌≡◌, refl, ℕ, ◌==◌, nat_lt, not, ◌&&◌, ◌||◌, Bool, true, false, if◌then◌else◌, IsTrue, List, [], ◌∷◌, ◌++◌, map, Option, Some, is_some, option_map, unwrap_or}
 use Rattle.std.proofs.Common.{ap, sym, ◌∙◌, subst, arith, inl, inr}
 use Rattle.std.proofs.Math.Bool.{false≢true}
@@ -8,27 +9,24 @@ use Rattle.std.proofs.lemmas.Bool.{eqb-true, eqb-false, ltb-true}
 use Rattle.std.proofs.lemmas.Option.{same_Some}
 use Rattle.plcs_base.specs.declared.declared.Declared.{Declared}
 use Rattle.plcs_grammar.specs.declared.node_kind.NodeKind.{NodeKind}
-use Rattle.plcs_grammar.specs.declared.node_kind.Sort.{Sort}
 use Rattle.plcs_grammar.specs.declared.template.Template.{Template}
 use Rattle.plcs_grammar.specs.PlainPhrase.{PlainPhrase, PlainVarRef}
 use Rattle.template_tree.specs.Checks.Environment.{Items}
 use Rattle.template_tree.specs.Checks.Verdict.{references_offence}
-use Rattle.template_tree.specs.Positions.Place.{PlainPlace, Site, Start, has_point, is_statement, item_count, place_at, place_exists_at, site}
+use Rattle.template_tree.specs.Positions.Place.{PlainPlace, Site, Start, has_point, has_start, item_count, place_at, place_exists_at, site}
 use Rattle.template_tree.specs.Programs.PlainTree.{Forest, Label, PlainTree}
 use Rattle.template_tree.specs.Programs.Program.{sort_of}
 use Rattle.template_tree.specs.Programs.Tree.{IsTree}
 use Rattle.tree_steps.specs.AgreementLaws.{ProceduresStandOutermost, SlotsStandOnce}
 use Rattle.tree_steps.specs.ListVerdict.{ListMarksFollowItems}
 use Rattle.tree_steps.specs.PlaceLaws.{AgreementKeepsPlaces, AgreementKeepsStarts, OthersBeginThemselves, SitesStand, StandingSlotsHaveSites}
-use Rattle.tree_steps.specs.RunPlace.{BeginsAt, HasPlace, KeepsPoint, is_first_marked}
+use Rattle.tree_steps.specs.RunPlace.{BeginsAt, HasPlace, KeepsPoint, KeepsVariables, is_first_marked}
 use Rattle.tree_steps.specs.SlotAgreement.{AgreesWith}
 use Rattle.tree_steps.specs.StandingSlot.{Around, StandsInside, loop_by_kind, loops_around, outermost_slot}
 use Rattle.plcs_store.specs.declared.frame.Frame.{Frame}
-use Rattle.plcs_store.specs.declared.held_template.HeldTemplate.{HeldTemplate}
 use Rattle.plcs_store.specs.Configuration.{frame_at, frame_place}
 use Rattle.plcs_store.specs.Fits.{AreVariables, HasLoops, StandsAround, StandsAt, StandsAtStart, is_waiting_place, loops_at, waits_in_template}
-use Rattle.plcs_store.specs.Resume.{resolved_frame, resolved_place, template_held}
-use Rattle.resume_rule.specs.ResumeAnswer.{held_of_label}
+use Rattle.plcs_store.specs.Resume.{Parts, kind_held, parts_held, resolved_frame, resolved_place}
 use Rattle.resume_rule.proofs.AllowedFrames.{IsAllowed}
 use Rattle.resume_rule.proofs.SettledEquations.{IsSettled, lists_settled, number_settled, true_settled, truth_settled}
 
@@ -75,10 +73,10 @@ no_wait : (kind : NodeKind) → is_waiting_place kind 0 ≡ false
 no_wait (NodeKind.Filled template) = template_no_wait template
 no_wait other = refl
 
--- a template has a point 0 only if it is a statement
+-- a template has a point 0 only if it has a start
 template_start : (marked : Bool) (label : Label) (template : Template)
-    → IsTrue ((is_statement (sort_of (NodeKind.Filled template)) && true) || has_point marked label (NodeKind.Filled template) 0)
-    → is_statement (sort_of (NodeKind.Filled template)) ≡ true
+    → IsTrue ((has_start (sort_of (NodeKind.Filled template)) && true) || has_point marked label (NodeKind.Filled template) 0)
+    → has_start (sort_of (NodeKind.Filled template)) ≡ true
 template_start marked label Template.Fixed exists = exists
 template_start marked label Template.Bit exists = exists
 template_start marked label Template.Char exists = exists
@@ -87,15 +85,11 @@ template_start marked label Template.ProcP exists = exists
 template_start marked label other exists = refl
 
 kind_start : (marked : Bool) (label : Label) (kind : NodeKind)
-    → IsTrue ((is_statement (sort_of kind) && true) || has_point marked label kind 0) → is_statement (sort_of kind) ≡ true
+    → IsTrue ((has_start (sort_of kind) && true) || has_point marked label kind 0) → has_start (sort_of kind) ≡ true
 kind_start marked label (NodeKind.Filled template) exists = template_start marked label template exists
 kind_start marked label NodeKind.Assign exists = refl
 kind_start marked label NodeKind.StatementHole exists = refl
 kind_start marked label other exists = exists
-
-statement_sort : (sort : Sort) → is_statement sort ≡ true → sort ≡ Sort.Statement
-statement_sort Sort.Statement is = refl
-statement_sort other is = absurd (false≢true is)
 
 -- ---- the mark of a GET
 
@@ -117,10 +111,6 @@ listed marked (Some (PlainPhrase.variable_list targets) ∷ others) point other 
 listed marked rest point other exists = absurd (no_item marked point other exists)
 
 -- ---- in both trees
-
--- the kind and the parts at a site, as they are kept
-abbrev held_at : Site → HeldTemplate
-held_at found = held_of_label found.label
 
 module _ (laws : TreeLaws) (earlier later : PlainTree) (is_earlier : IsTree earlier) (is_later : IsTree later) (agrees : AgreesWith earlier later) where
   in_both : (waits : Bool) (frame : Frame) → FrameFits earlier.items waits frame → IsAllowed earlier.items later.items frame
@@ -152,21 +142,25 @@ module _ (laws : TreeLaws) (earlier later : PlainTree) (is_earlier : IsTree earl
 
   module _ (waits : Bool) (frame : Frame) (was now : Site) (around : Around) (both : StandsInBoth earlier later waits frame was now around)
       (allowed : IsAllowed earlier.items later.items frame) where
-    held_same : template_held later.items frame.place.slot.0 ≡ template_held earlier.items frame.place.slot.0
-        → (was.label.kind ≡ now.label.kind) × (was.label.parts ≡ now.label.parts)
-    held_same same =
-        let held : held_of_label now.label ≡ held_of_label was.label =
-        same_Some (held_of_label now.label) (held_of_label was.label)
-        (sym (ap (option_map held_at) both.now_there) ∙ same ∙ ap (option_map held_at) both.was_there) in
-        (ap (λ (one : HeldTemplate). one.kind) (sym held), ap (λ (one : HeldTemplate). one.parts) (sym held))
+    same_kind : kind_held later.items frame.place.slot.0 ≡ kind_held earlier.items frame.place.slot.0 → was.label.kind ≡ now.label.kind
+    same_kind same =
+        let kind_at : Site → NodeKind = λ found. found.label.kind in
+        same_Some was.label.kind now.label.kind
+        (sym (ap (option_map kind_at) both.was_there) ∙ sym same ∙ ap (option_map kind_at) both.now_there)
 
-    -- what holds at a start, and in the same template, holds
+    same_parts : parts_held later.items frame.place.slot.0 ≡ parts_held earlier.items frame.place.slot.0 → was.label.parts ≡ now.label.parts
+    same_parts same =
+        let parts_at : Site → Parts = λ found. found.label.parts in
+        same_Some was.label.parts now.label.parts
+        (sym (ap (option_map parts_at) both.was_there) ∙ sym same ∙ ap (option_map parts_at) both.now_there)
+
+    -- what holds at a start, and where the kind is the same, holds
     at_point : {P : Type 0} → IsSettled P → (frame.place.point.0 ≡ 0 → P)
-        → ((frame.place.point.0 ≡ 0 → ⊥) → template_held later.items frame.place.slot.0 ≡ template_held earlier.items frame.place.slot.0 → P) → P
+        → ((frame.place.point.0 ≡ 0 → ⊥) → was.label.kind ≡ now.label.kind → P) → P
     at_point settled start same =
         settled (λ fails.
         let other : frame.place.point.0 ≡ 0 → ⊥ = λ is_start. fails (start is_start) in
-        allowed.template other (λ held. fails (same other held)))
+        allowed.kind other (λ kind. fails (same other (same_kind kind))))
 
     mark_same : (frame.place.point.0 ≡ 0 → ⊥) → was.label.parts ≡ now.label.parts → was.label.kind ≡ NodeKind.Filled Template.Get
         → is_first_marked earlier.items frame.place.slot.0 ≡ is_first_marked later.items frame.place.slot.0
@@ -177,7 +171,7 @@ module _ (laws : TreeLaws) (earlier later : PlainTree) (is_earlier : IsTree earl
         let marked : Bool = is_first_marked earlier.items slot in
         let list =
         listed marked was.label.parts point other
-        (subst (λ (kind : NodeKind). IsTrue ((is_statement (sort_of kind) && (point == 0)) || has_point marked was.label kind point)) get
+        (subst (λ (kind : NodeKind). IsTrue ((has_start (sort_of kind) && (point == 0)) || has_point marked was.label kind point)) get
         (subst (λ (found : Option Site). IsTrue (place_exists_at marked found point)) both.was_there both.exists)) in
         laws.marks earlier.items slot own was list.0 list.1 (is_earlier.once slot) (is_earlier.once own)
         (laws.procedure earlier.items slot was.label.kind around (is_earlier.once slot) both.stood ∙ ap Some both.procedure) both.was_there list.2
@@ -195,14 +189,14 @@ module _ (laws : TreeLaws) (earlier later : PlainTree) (is_earlier : IsTree earl
               at_point
               (true_settled (place_exists_at (is_first_marked later.items frame.place.slot.0) (site later.items frame.place.slot.0) frame.place.point.0))
               (λ is_start. kept (inl is_start))
-              (λ other held. let same = held_same held in kept (inr (same.0, same.1, λ get. mark_same other same.1 get)));
+              kept_later;
           procedure = both.procedure;
           waiting =
               at_point (truth_settled (is_waiting_place now.label.kind frame.place.point.0) waits)
               (λ is_start.
               ap (is_waiting_place now.label.kind) is_start ∙ no_wait now.label.kind ∙ sym (no_wait was.label.kind)
               ∙ ap (is_waiting_place was.label.kind) (sym is_start) ∙ both.waiting)
-              (λ other held. ap (λ (kind : NodeKind). is_waiting_place kind frame.place.point.0) (sym (held_same held).0) ∙ both.waiting);
+              (λ other kind. ap (λ (one : NodeKind). is_waiting_place one frame.place.point.0) (sym kind) ∙ both.waiting);
         }
       where
         kept : KeepsPoint was.label now.label (is_first_marked earlier.items frame.place.slot.0) (is_first_marked later.items frame.place.slot.0) frame.place.point.0
@@ -210,6 +204,22 @@ module _ (laws : TreeLaws) (earlier later : PlainTree) (is_earlier : IsTree earl
         kept keeps =
             laws.places earlier later (is_first_marked earlier.items) (is_first_marked later.items) frame.place.slot.0 frame.place.point.0 was now agrees
             both.was_there both.now_there keeps both.exists
+
+        variables : (frame.place.point.0 ≡ 0 → ⊥) → was.label.kind ≡ NodeKind.Filled Template.Get → was.label.parts ≡ now.label.parts
+            → KeepsVariables was.label now.label (is_first_marked earlier.items frame.place.slot.0) (is_first_marked later.items frame.place.slot.0)
+        variables other get parts = record { parts = parts; marked = mark_same other parts get }
+
+        -- of a GET the parts can't differ either
+        kept_later : (frame.place.point.0 ≡ 0 → ⊥) → was.label.kind ≡ now.label.kind → HasPlace later.items (frame_place frame)
+        kept_later other kind =
+            true_settled (place_exists_at (is_first_marked later.items frame.place.slot.0) (site later.items frame.place.slot.0) frame.place.point.0)
+            (λ fails.
+            fails
+            (kept
+            (inr (
+              kind,
+              λ get. absurd (allowed.parts other (λ parts. fails (kept (inr (kind, λ also. variables other get (same_parts parts)))))),
+            ))))
 
     -- at a start the loops are those around it
     start_loops : (kind : NodeKind) → frame.place.point.0 ≡ 0 → loops_at kind around (frame_place frame) ≡ loops_around around ++ []
@@ -222,7 +232,7 @@ module _ (laws : TreeLaws) (earlier later : PlainTree) (is_earlier : IsTree earl
         ∙ at_point
         (lists_settled number_settled (loops_at was.label.kind around (frame_place frame)) (loops_at now.label.kind around (frame_place frame)))
         (λ is_start. start_loops was.label.kind is_start ∙ sym (start_loops now.label.kind is_start))
-        (λ differs held. ap (λ (one : NodeKind). loops_at one around (frame_place frame)) (held_same held).0)
+        (λ other_point kind_same. ap (λ (one : NodeKind). loops_at one around (frame_place frame)) kind_same)
         ∙ (λ i. loops_at (same.0 i) (same.1 i) (frame_place frame))
 
     -- a run that stood at the start of the slot begins there
@@ -231,10 +241,9 @@ module _ (laws : TreeLaws) (earlier later : PlainTree) (is_earlier : IsTree earl
     begins is_start =
         let marked : Bool = is_first_marked earlier.items frame.place.slot.0 in
         laws.starts earlier later frame.place.slot.0 was.label.kind now.label.kind around around is_later agrees both.stood both.stands
-        (statement_sort (sort_of was.label.kind)
         (kind_start marked was.label was.label.kind
         (subst (λ (point : ℕ). IsTrue (place_exists_at marked (Some was) point)) is_start
-        (subst (λ (found : Option Site). IsTrue (place_exists_at marked found frame.place.point.0)) both.was_there both.exists))))
+        (subst (λ (found : Option Site). IsTrue (place_exists_at marked found frame.place.point.0)) both.was_there both.exists)))
 
     begun_fits : (place : PlainPlace) → frame.place.point.0 ≡ 0 → BeginsAt later.items frame.place.slot.0 around place
         → AreVariables (Items later.items frame.procedure.0) frame.cells → NewestFits later.items (frame_at place frame)

@@ -1,7 +1,7 @@
 -- Which answer is right where a run is to be resumed, and what has to be kept for the question.
 use Rattle.std.specs.Prelude.{◌≡◌, ◌↔◌, ◌≤◌, List, length, Option, None}
 use Rattle.plcs_base.specs.declared.declared.Declared.{Declared}
-use Rattle.template_tree.specs.Programs.PlainTree.{Forest, Label}
+use Rattle.template_tree.specs.Programs.PlainTree.{Forest}
 use Rattle.plcs_store.specs.declared.frame.Frame.{Frame}
 use Rattle.plcs_store.specs.declared.held_template.HeldTemplate.{HeldTemplate}
 use Rattle.plcs_store.specs.declared.kept.Kept.{Kept}
@@ -34,7 +34,3 @@ abbrev pub IsFrameAnswer : (program : Forest) → Frame → Parts → List Decla
     → Type 0
 IsFrameAnswer program frame heading items template answer =
     AsksFrame program frame heading items template (λ other. other ≡ None) answer
-
--- what has to be kept of a node of the label for the question whether a run may be resumed: its kind and its parts
-abbrev pub held_of_label : Label → HeldTemplate
-held_of_label label = record { kind = label.kind; parts = label.parts }

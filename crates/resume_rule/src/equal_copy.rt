@@ -3,23 +3,18 @@ ghost use Rattle.std.specs.Prelude.{◌≡◌, ◌↔◌, ◌<◌, ◌≤◌, Is
 ghost use Rattle.template_tree.specs.Checks.ProgramMaps.{items_in};
 ghost use Rattle.template_tree.specs.Programs.Limit.{most_cells};
 ghost use Rattle.template_tree.specs.Programs.PlainPhrasePlace.{plain_phrase_place};
-ghost use Rattle.resume_rule.specs.ResumeAnswer.{held_of_label};
 
 use decl_table::Decls;
 use plcs_base::{Declared, Scope, Slot};
-use plcs_grammar::same_phrase;
-use plcs_store::{CopiedParts, DeclaredList, HeldTemplate};
+use plcs_grammar::{NodeKind, same_phrase};
+use plcs_store::{CopiedParts, DeclaredList};
 use template_tree::{Node, PhrasePlace};
 
-/// Whether the node is of the kept kind, with the kept parts.
-pub(crate) fn is_template(node: &Node, kept: &HeldTemplate) -> bool
-    requires few { length node.now.label.parts < 256 }
-    ensures { IsTrue result ↔ (held_of_label node.now.label ≡ kept.now) }
+/// Whether the node is of the kept kind.
+pub(crate) fn has_kind(node: &Node, kept: NodeKind) -> bool
+    ensures { IsTrue result ↔ (node.now.label.kind ≡ kept) }
 {
-    if node.kind() != kept.kind {
-        return false;
-    }
-    has_parts(node, &kept.parts)
+    node.kind() == kept
 }
 
 /// Whether the node has the kept parts.

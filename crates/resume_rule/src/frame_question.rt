@@ -4,7 +4,7 @@ ghost use Rattle.decl_table.specs.Agreement.{IsDeclsOf};
 ghost use Rattle.template_tree.specs.Programs.Tree.{IsTree};
 ghost use Rattle.plcs_store.specs.Resume.{HeadingDiffers, ItemsDiffer, TemplateDiffers};
 
-use crate::equal_copy::{has_items, has_parts, is_template};
+use crate::equal_copy::{has_items, has_kind, has_parts};
 use crate::live_node::{node_in, procedure_in};
 use decl_table::Decls;
 use plcs_store::{CopiedParts, DeclaredList, Frame, HeldTemplate, items_keep_limits};
@@ -31,7 +31,8 @@ pub(crate) fn items_differ(tree: &Tree, decls: &Decls, frame: &Frame, kept: &Dec
     !has_items(decls, frame.procedure, kept)
 }
 
-/// Whether nothing stands in the slot of the frame's place, or another template where the place isn't its start.
+/// Whether nothing stands in the slot of the frame's place, or, where the place isn't its start, what stands there is
+/// of another kind or has other parts.
 pub(crate) fn template_differs(tree: &Tree, frame: &Frame, kept: &HeldTemplate) -> bool
     requires tree { IsTree tree.now }
     ensures { IsTrue result ↔ TemplateDiffers tree.now.items frame.now kept.now }
@@ -42,5 +43,5 @@ pub(crate) fn template_differs(tree: &Tree, frame: &Frame, kept: &HeldTemplate) 
     if frame.place.point.0 == 0 {
         return false;
     }
-    !is_template(node, kept)
+    !has_kind(node, kept.kind) || !has_parts(node, &kept.parts)
 }

@@ -8,7 +8,7 @@ use Rattle.std.proofs.Common.{ap, sym, ◌∙◌, subst}
 use Rattle.plcs_grammar.specs.Template.{row_of}
 use Rattle.template_tree.specs.Checks.Marks.{VerdictMap, Verdicts, offences}
 use Rattle.template_tree.specs.Checks.Mention.{phrase_at}
-use Rattle.template_tree.specs.Positions.Place.{Exists, PlainPlace, Site, place_at, begin, end_at, place_exists_at, in_turn, inner_end, is_statement, passes_in, site, site_among, site_start}
+use Rattle.template_tree.specs.Positions.Place.{Exists, PlainPlace, Site, place_at, begin, end_at, place_exists_at, in_turn, inner_end, begins_run, passes_in, site, site_among, site_start}
 use Rattle.template_tree.specs.Programs.PlainTree.{Forest, Label}
 use Rattle.template_tree.specs.Programs.Program.{sort_of}
 use Rattle.tree_steps.specs.EditStep.{substance}
@@ -19,7 +19,7 @@ use Rattle.tree_steps.specs.RunPlace.{HasPlace, PlacesAlike, SitesAlike, is_firs
 pub begin_same : (items : Forest) (behind : PlainPlace) → begin (substance items) behind ≡ begin items behind
 begin_same Forest.nil behind = refl
 begin_same (Forest.cons label inner rest) behind =
-    λ i. if is_statement (sort_of label.kind)
+    λ i. if begins_run (sort_of label.kind)
     then (if passes_in label.kind then begin_same inner behind i else place_at label.slot 0)
     else begin_same rest behind i
 

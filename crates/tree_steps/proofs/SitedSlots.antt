@@ -1,6 +1,7 @@
--- A site is of the node that stands in its slot, and a run that comes to a statement begins at one in the same loops.
--- Only groups and comments pass a run on to what stands inside them; these are no loops, and their first item is a
--- statement.
+-- A site is of the node that stands in its slot, and a run that comes to a node with a place at its start begins at such
+-- a node in the same loops.
+-- Only groups and comments pass a run on to what stands inside them; these are no loops, and a run begins at their first
+-- item.
 use Rattle.std.specs.Prelude.{◌≡◌, refl, ℕ, ◌<◌, ◌≤◌, ◌==◌, ◌&&◌, ◌||◌, IsTrue, Bool, true, false, if◌then◌else◌, List, [], ◌∷◌, ◌++◌, length, slice_index_or, Option, Some, None, option_map, ◌⊎◌}
 use Rattle.std.specs.Option.{option_or}
 use Rattle.std.proofs.Common.{ap, sym, ◌∙◌, subst, arith, append-nil, inl, inr}
@@ -10,12 +11,12 @@ use Rattle.std.proofs.lemmas.Option.{none-some}
 use Rattle.plcs_grammar.specs.declared.node_kind.NodeKind.{NodeKind}
 use Rattle.plcs_grammar.specs.declared.node_kind.Sort.{Sort}
 use Rattle.plcs_grammar.specs.declared.template.Template.{Template}
-use Rattle.plcs_grammar.specs.Template.{list_of, row_of}
-use Rattle.template_tree.specs.Positions.Place.{Exists, PlainPlace, Site, place_at, begin, end_at, place_exists_at, has_point, in_turn, inner_end, is_statement, passes_in, site_among, site_start}
+use Rattle.plcs_grammar.specs.Template.{PlainSection, list_of, row_of}
+use Rattle.template_tree.specs.Positions.Place.{Exists, PlainPlace, Site, place_at, begin, end_at, place_exists_at, has_point, in_turn, inner_end, begins_run, has_start, passes_in, site_among, site_start}
 use Rattle.template_tree.specs.Programs.PlainTree.{Forest, Label}
 use Rattle.template_tree.specs.Programs.Slots.{times}
 use Rattle.template_tree.specs.Programs.Program.{AreNodes, Fill, IsNode, sort_of, sorts}
-use Rattle.tree_steps.specs.PlaceLaws.{OthersBeginThemselves, SitesStand, StandingSlotsHaveSites, StatementsBegin}
+use Rattle.tree_steps.specs.PlaceLaws.{OthersBeginThemselves, RunsBegin, SitesStand, StandingSlotsHaveSites}
 use Rattle.tree_steps.specs.RunPlace.{BeginsAt, is_first_marked}
 use Rattle.tree_steps.specs.StandingSlot.{Around, StandsBelow, StandsInside, loop_by_kind, loops_around, outermost_slot}
 use Rattle.tree_steps.proofs.StandingSlots.{outermost_within, stands_once}
@@ -156,28 +157,30 @@ standing_slots_have_sites items slot kind around h = among_has [] slot false ite
 
 -- ---- where a run begins
 
--- the first of the sorts is that of statements
-abbrev StartsWithStatement : List Sort → Type 0
-StartsWithStatement [] = ⊥
-StartsWithStatement (sort ∷ others) = sort ≡ Sort.Statement
+-- a run begins at the first of the sorts
+abbrev StartsRun : List Sort → Type 0
+StartsRun [] = ⊥
+StartsRun (sort ∷ others) = begins_run sort ≡ true
 
--- a list of statements begins with one
-list_starts : (own others : List Sort) → 1 ≤ length own
-    → ((k : ℕ) (d : Sort) → k < length own → slice_index_or own k d ≡ Sort.Statement) → StartsWithStatement (own ++ others)
-list_starts [] others some all = absurd (omega (arith, some))
-list_starts (sort ∷ own) others some all = all 0 Sort.Statement (omega (arith, some))
+-- a list of what a run begins at starts one
+list_starts : (sort : Sort) (own others : List Sort) → begins_run sort ≡ true → 1 ≤ length own
+    → ((k : ℕ) (d : Sort) → k < length own → slice_index_or own k d ≡ sort) → StartsRun (own ++ others)
+list_starts sort [] others begins some all = absurd (omega (arith, some))
+list_starts sort (first ∷ own) others begins some all = ap begins_run (all 0 sort (omega (arith, some))) ∙ begins
 
-filled_starts : (items : List Sort) → Fill (list_of Sort.Statement ∷ []) items → StartsWithStatement items
-filled_starts items (own, others, same, are, none) = subst StartsWithStatement (sym same) (list_starts own others are.0 are.1)
+filled_starts : (sort : Sort) (sections : List PlainSection) (items : List Sort) → begins_run sort ≡ true → Fill (list_of sort ∷ sections) items
+    → StartsRun items
+filled_starts sort sections items begins (own, others, same, are, fill) =
+    subst StartsRun (sym same) (list_starts sort own others begins are.0 are.1)
 
 template_starts : (template : Template) (items : List Sort) → passes_in (NodeKind.Filled template) ≡ true
-    → Fill (row_of (NodeKind.Filled template)).sections items → StartsWithStatement items
-template_starts Template.Group items e fill = filled_starts items fill
-template_starts Template.Comment items e fill = filled_starts items fill
+    → Fill (row_of (NodeKind.Filled template)).sections items → StartsRun items
+template_starts Template.Group items e fill = filled_starts Sort.Statement [] items refl fill
+template_starts Template.Comment items e fill = filled_starts Sort.Statement [] items refl fill
 template_starts other items e fill = absurd (false≢true e)
 
--- what passes a run on to its first item has a statement there
-kind_starts : (kind : NodeKind) (items : List Sort) → passes_in kind ≡ true → Fill (row_of kind).sections items → StartsWithStatement items
+-- what passes a run on to its first item has one there at which a run begins
+kind_starts : (kind : NodeKind) (items : List Sort) → passes_in kind ≡ true → Fill (row_of kind).sections items → StartsRun items
 kind_starts (NodeKind.Filled template) items e fill = template_starts template items e fill
 kind_starts other items e fill = absurd (false≢true e)
 
@@ -195,67 +198,71 @@ no_loop other slot e = absurd (false≢true e)
 same_loops : (kind : NodeKind) (slot : ℕ) (around : Around) → passes_in kind ≡ true → loops_around ((slot, kind) ∷ around) ≡ loops_around around
 same_loops kind slot around e = ap (λ (loop : List ℕ). loops_around around ++ loop) (no_loop kind slot e) ∙ append-nil (loops_around around)
 
--- a place is the start of a statement among these nodes, or inside one of them, in the same loops
+-- a run has a place at the start of what it begins at
+begun_starts : (sort : Sort) → begins_run sort ≡ true → has_start sort ≡ true
+begun_starts Sort.Statement e = refl
+begun_starts other e = absurd (false≢true e)
+
+-- a place is the start of one of these nodes, or inside one of them, in the same loops
 record BeginsBelow (above : Around) (items : Forest) (place : PlainPlace) : Type 0 where
   start : place.point ≡ 0
   kind : NodeKind
   within : Around
   stands : StandsBelow above items place.slot kind within
-  statement : sort_of kind ≡ Sort.Statement
+  starts : has_start (sort_of kind) ≡ true
   stays : passes_in kind ≡ false
   loops : loops_around within ≡ loops_around above
 
 -- the first node is where a run begins, or passes it on
-begin_level : (statement passes : Bool) (above : Around) (label : Label) (inner rest : Forest) (one other : PlainPlace)
-    → statement ≡ true → passes_in label.kind ≡ passes → sort_of label.kind ≡ Sort.Statement
+begin_level : (begins passes : Bool) (above : Around) (label : Label) (inner rest : Forest) (one other : PlainPlace)
+    → begins ≡ true → passes_in label.kind ≡ passes → has_start (sort_of label.kind) ≡ true
     → (passes ≡ true → BeginsBelow ((label.slot, label.kind) ∷ above) inner one)
-    → BeginsBelow above (Forest.cons label inner rest) (if statement then (if passes then one else place_at label.slot 0) else other)
-begin_level false passes above label inner rest one other is pass sort inside = absurd (false≢true is)
-begin_level true true above label inner rest one other is pass sort inside =
+    → BeginsBelow above (Forest.cons label inner rest) (if begins then (if passes then one else place_at label.slot 0) else other)
+begin_level false passes above label inner rest one other is pass starts inside = absurd (false≢true is)
+begin_level true true above label inner rest one other is pass starts inside =
     let there = inside refl in
     record {
       start = there.start;
       kind = there.kind;
       within = there.within;
       stands = inr (inl there.stands);
-      statement = there.statement;
+      starts = there.starts;
       stays = there.stays;
       loops = there.loops ∙ same_loops label.kind label.slot above pass;
     }
-begin_level true false above label inner rest one other is pass sort inside =
-    record { start = refl; kind = label.kind; within = above; stands = inl (refl, refl, refl); statement = sort; stays = pass; loops = refl }
+begin_level true false above label inner rest one other is pass starts inside =
+    record { start = refl; kind = label.kind; within = above; stands = inl (refl, refl, refl); starts = starts; stays = pass; loops = refl }
 
-begin_below : (above : Around) (items : Forest) (behind : PlainPlace) → AreNodes items → StartsWithStatement (sorts items)
+begin_below : (above : Around) (items : Forest) (behind : PlainPlace) → AreNodes items → StartsRun (sorts items)
     → BeginsBelow above items (begin items behind)
 begin_below above Forest.nil behind are starts = absurd starts
 begin_below above (Forest.cons label inner rest) behind are starts =
-    begin_level (is_statement (sort_of label.kind)) (passes_in label.kind) above label inner rest (begin inner behind) (begin rest behind)
-    (ap is_statement starts) refl starts
+    begin_level (begins_run (sort_of label.kind)) (passes_in label.kind) above label inner rest (begin inner behind) (begin rest behind) starts
+    refl (begun_starts (sort_of label.kind) starts)
     (λ pass. begin_below ((label.slot, label.kind) ∷ above) inner behind are.1 (kind_starts label.kind (sorts inner) pass are.0.inner))
 
--- each statement has a place at point 0
-pub statement_starts : (sort : Sort) (others : Bool) → is_statement sort ≡ true → IsTrue ((is_statement sort && true) || others)
-statement_starts Sort.Statement others e = refl
-statement_starts other others e = absurd (false≢true e)
+-- what has a start has a place at point 0
+pub start_point : (sort : Sort) (others : Bool) → has_start sort ≡ true → IsTrue ((has_start sort && true) || others)
+start_point sort others e = ap (λ (starts : Bool). (starts && true) || others) e
 
--- the start of a statement that stands but once is a place, whatever is marked
+-- the start of what stands but once and has one is a place, whatever is marked
 starts_exist : (marked : ℕ → Bool) (items : Forest) (place : PlainPlace) (kind : NodeKind) (around : Around) → times place.slot items ≤ 1
-    → place.point ≡ 0 → StandsInside items place.slot kind around → sort_of kind ≡ Sort.Statement → Exists marked items place
-starts_exist marked items place kind around once start stands sort =
+    → place.point ≡ 0 → StandsInside items place.slot kind around → has_start (sort_of kind) ≡ true → Exists marked items place
+starts_exist marked items place kind around once start stands starts =
     let has = standing_slots_have_sites items place.slot kind around stands in
     let found : Site = has.0 in
     let there : FoundAt [] items place.slot found = found_among [] place.slot false items (place_at 0 1) found has.1 in
     let same = stands_once [] items place.slot found.label.kind kind there.around around once there.stands stands in
     subst (λ (site : Option Site). IsTrue (place_exists_at (marked place.slot) site place.point)) (sym has.1)
     (subst (λ (point : ℕ). IsTrue (place_exists_at (marked place.slot) (Some found) point)) (sym start)
-    (statement_starts (sort_of found.label.kind) (has_point (marked place.slot) found.label found.label.kind 0)
-    (ap is_statement (ap sort_of same.0 ∙ sort))))
+    (start_point (sort_of found.label.kind) (has_point (marked place.slot) found.label found.label.kind 0)
+    (ap (λ (one : NodeKind). has_start (sort_of one)) same.0 ∙ starts)))
 
 -- a run that comes to the node at a site begins there, or is passed on
 site_begins : (passes : Bool) (items : Forest) (slot : ℕ) (found : Site) (there : FoundAt [] items slot found) → AreNodes items
-    → ((other : ℕ) → times other items ≤ 1) → passes_in found.label.kind ≡ passes → sort_of found.label.kind ≡ Sort.Statement
+    → ((other : ℕ) → times other items ≤ 1) → passes_in found.label.kind ≡ passes → has_start (sort_of found.label.kind) ≡ true
     → BeginsAt items slot there.around (if passes then begin found.inner found.after else place_at found.label.slot 0)
-site_begins true items slot found there are once pass sort =
+site_begins true items slot found there are once pass starts =
     let node = there.node are in
     let above : Around = (found.label.slot, found.label.kind) ∷ there.around in
     let place : PlainPlace = begin found.inner found.after in
@@ -268,16 +275,16 @@ site_begins true items slot found there are once pass sort =
       kind = begins.kind;
       within = begins.within;
       stands = stands;
-      statement = begins.statement;
+      starts = begins.starts;
       stays = begins.stays;
       exists =
-          starts_exist (is_first_marked items) items place begins.kind begins.within (once place.slot) begins.start stands begins.statement;
+          starts_exist (is_first_marked items) items place begins.kind begins.within (once place.slot) begins.start stands begins.starts;
       loops = begins.loops ∙ same_loops found.label.kind found.label.slot there.around pass;
       procedure =
           outermost_within found.inner there.around (found.label.slot, found.label.kind) place.slot begins.kind begins.within begins.stands
           ∙ ap (λ (own : ℕ). outermost_slot own there.around) there.slot_is;
     }
-site_begins false items slot found there are once pass sort =
+site_begins false items slot found there are once pass starts =
     let stands : StandsInside items found.label.slot found.label.kind there.around =
     subst (λ (own : ℕ). StandsInside items own found.label.kind there.around) (sym there.slot_is) there.stands in
     record {
@@ -285,17 +292,17 @@ site_begins false items slot found there are once pass sort =
       kind = found.label.kind;
       within = there.around;
       stands = stands;
-      statement = sort;
+      starts = starts;
       stays = pass;
       exists =
           starts_exist (is_first_marked items) items (place_at found.label.slot 0) found.label.kind there.around (once found.label.slot) refl stands
-          sort;
+          starts;
       loops = refl;
       procedure = ap (λ (own : ℕ). outermost_slot own there.around) there.slot_is;
     }
 
-pub statements_begin : StatementsBegin
-statements_begin tree slot kind around is stands sort =
+pub runs_begin : RunsBegin
+runs_begin tree slot kind around is stands starts =
     let has = standing_slots_have_sites tree.items slot kind around stands in
     let found : Site = has.0 in
     let there : FoundAt [] tree.items slot found = found_among [] slot false tree.items (place_at 0 1) found has.1 in
@@ -303,7 +310,8 @@ statements_begin tree slot kind around is stands sort =
       site_start found,
       ap (option_map site_start) has.1,
       subst (λ (a : Around). BeginsAt tree.items slot a (site_start found)) same.1
-          (site_begins (passes_in found.label.kind) tree.items slot found there is.program.sound is.once refl (ap sort_of same.0 ∙ sort)),
+          (site_begins (passes_in found.label.kind) tree.items slot found there is.program.sound is.once refl
+          (ap (λ (one : NodeKind). has_start (sort_of one)) same.0 ∙ starts)),
     )
 
 plain_start : (found : Site) → passes_in found.label.kind ≡ false → site_start found ≡ place_at found.label.slot 0

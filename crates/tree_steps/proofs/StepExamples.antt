@@ -9,7 +9,7 @@ use Rattle.plcs_grammar.specs.declared.node_kind.Sort.{Sort}
 use Rattle.plcs_grammar.specs.Template.{procedure_sections, program_sections}
 use Rattle.template_tree.specs.declared.side.Side.{Side}
 use Rattle.template_tree.specs.Programs.NewTree.{bare_label, new_tree}
-use Rattle.template_tree.specs.Positions.Place.{is_statement}
+use Rattle.template_tree.specs.Positions.Place.{has_start}
 use Rattle.template_tree.specs.Programs.PlainTree.{Forest, PlainTree}
 use Rattle.template_tree.specs.Programs.Program.{Fill, IsNode}
 use Rattle.template_tree.specs.Programs.Slots.{times}
@@ -257,4 +257,4 @@ declaration_stands = inr (inl (inr (inr (inl (refl, refl, refl)))))
 comes_back_otherwise : AgreesWith statement_added declaration_added → ⊥
 comes_back_otherwise agrees =
     let alike = agrees.alike 4 NodeKind.StatementHole NodeKind.DeclarationHole in_main in_main statement_stands declaration_stands in
-    false≢true (sym (ap is_statement alike.0))
+    false≢true (sym (ap has_start alike.0))

@@ -1,10 +1,9 @@
 -- The laws of places: they ignore room and elision, and trees that agree keep them.
-use Rattle.std.specs.Prelude.{◌≡◌, ℕ, ◌≤◌, Bool, false, List, Some}
+use Rattle.std.specs.Prelude.{◌≡◌, ℕ, ◌≤◌, Bool, false, true, List, Some}
 use Rattle.plcs_grammar.specs.declared.node_kind.NodeKind.{NodeKind}
-use Rattle.plcs_grammar.specs.declared.node_kind.Sort.{Sort}
 use Rattle.template_tree.specs.Edits.Edit.{edit_at}
 use Rattle.template_tree.specs.Edits.Elision.{toggled}
-use Rattle.template_tree.specs.Positions.Place.{Exists, PlainPlace, Site, Start, place_at, passes_in, site}
+use Rattle.template_tree.specs.Positions.Place.{Exists, PlainPlace, Site, Start, has_start, place_at, passes_in, site}
 use Rattle.template_tree.specs.Programs.PlainTree.{Forest, PlainTree, roomless}
 use Rattle.template_tree.specs.Programs.Program.{sort_of}
 use Rattle.template_tree.specs.Programs.Slots.{times}
@@ -42,12 +41,13 @@ StandingSlotsHaveSites =
     (items : Forest) (slot : ℕ) (kind : NodeKind) (around : Around) → StandsInside items slot kind around
     → (found : Site) × (site items slot ≡ Some found)
 
--- a run that comes to a statement of a tree begins at one, in the same loops and the same procedure
-abbrev pub StatementsBegin : Type 0
-StatementsBegin =
+-- a run that comes to a node of a tree at whose start it has a place begins at such a node, in the same loops and the
+-- same procedure
+abbrev pub RunsBegin : Type 0
+RunsBegin =
     (tree : PlainTree) (slot : ℕ) (kind : NodeKind) (around : Around) → IsTree tree
     → StandsInside tree.items slot kind around
-    → sort_of kind ≡ Sort.Statement
+    → has_start (sort_of kind) ≡ true
     → (place : PlainPlace) × (Start tree.items slot ≡ Some place) × BeginsAt tree.items slot around place
 
 -- the law of the place at which a run begins that comes to a node other than a group and a comment, which alone pass it
@@ -67,13 +67,14 @@ AgreementKeepsLoops =
     → StandsInside earlier.items slot was one → StandsInside later.items slot now other
     → loops_around one ≡ loops_around other
 
--- the place where a run begins that comes to a slot of trees that agree, where a statement stood, is in the loops and
--- the procedure that the slot had
+-- the place where a run begins that comes to a slot of trees that agree is in the loops and the procedure that the slot
+-- had, if a run had a place at the start of what stood there
 abbrev pub AgreementKeepsStarts : Type 0
 AgreementKeepsStarts =
     (earlier later : PlainTree) (slot : ℕ) (was now : NodeKind) (one other : Around) → IsTree later
     → AgreesWith earlier later
-    → StandsInside earlier.items slot was one → StandsInside later.items slot now other → sort_of was ≡ Sort.Statement
+    → StandsInside earlier.items slot was one → StandsInside later.items slot now other
+    → has_start (sort_of was) ≡ true
     → (place : PlainPlace) × (Start later.items slot ≡ Some place) × BeginsAt later.items slot one place
 
 -- a place of trees that agree goes on to exist, where its point is kept and its slot is live

@@ -1,10 +1,9 @@
--- Places of a run in a program, by what is marked in it; and where a run begins that comes to a statement.
-use Rattle.std.specs.Prelude.{◌≡◌, ◌↔◌, ◌⊎◌, ℕ, Bool, false, option_map}
+-- Places of a run in a program, by what is marked in it; and where a run begins that comes to a node.
+use Rattle.std.specs.Prelude.{◌≡◌, ◌↔◌, ◌⊎◌, ℕ, Bool, false, true, option_map}
 use Rattle.plcs_grammar.specs.declared.node_kind.NodeKind.{NodeKind}
-use Rattle.plcs_grammar.specs.declared.node_kind.Sort.{Sort}
 use Rattle.plcs_grammar.specs.declared.template.Template.{Template}
 use Rattle.template_tree.specs.Checks.Marks.{is_phrase_marked}
-use Rattle.template_tree.specs.Positions.Place.{After, Exists, PlainPlace, Site, Start, passes_in, site}
+use Rattle.template_tree.specs.Positions.Place.{After, Exists, PlainPlace, Site, Start, has_start, passes_in, site}
 use Rattle.template_tree.specs.Programs.PlainTree.{Forest, Label}
 use Rattle.template_tree.specs.Programs.Program.{sort_of}
 use Rattle.tree_steps.specs.EditStep.{substance}
@@ -20,25 +19,30 @@ is_first_marked program slot = is_phrase_marked program slot 0
 abbrev pub HasPlace : Forest → PlainPlace → Type 0
 HasPlace program place = Exists (is_first_marked program) program place
 
+-- by what is marked, a GET has the same points where another one's label stands in its slot: each variable of its list
+-- is one, unless the list is marked
+pub record KeepsVariables (one other : Label) (was_marked is_marked : Bool) : Type 0 where
+  pub parts : one.parts ≡ other.parts
+  pub marked : was_marked ≡ is_marked
+
 -- by what is marked, a point of a node stays a place of a run where another label stands in its slot: it is the start,
--- or the kind and the parts are the same, and in a GET, of which each variable is a point only where the list isn't
--- marked, the mark of the first part
+-- or the kind is the same; of a GET more is asked
 abbrev pub KeepsPoint : (one other : Label) (was_marked is_marked : Bool) (point : ℕ) → Type 0
 KeepsPoint one other was_marked is_marked point =
     (point ≡ 0)
-    ⊎ ((one.kind ≡ other.kind) × (one.parts ≡ other.parts)
-    × (one.kind ≡ NodeKind.Filled Template.Get → was_marked ≡ is_marked))
+    ⊎ ((one.kind ≡ other.kind)
+    × (one.kind ≡ NodeKind.Filled Template.Get → KeepsVariables one other was_marked is_marked))
 
 -- ---- where a run begins
 
--- the place is one of the program: the start of a statement that doesn't pass a run on to what stands inside it, with
--- the loops among these nodes around it, in the procedure of the slot that these are around
+-- the place is one of the program: the start of a node that doesn't pass a run on to what stands inside it, with the
+-- loops among these nodes around it, in the procedure of the slot that these are around
 pub record BeginsAt (items : Forest) (slot : ℕ) (around : Around) (place : PlainPlace) : Type 0 where
   pub start : place.point ≡ 0
   pub kind : NodeKind
   pub within : Around
   pub stands : StandsInside items place.slot kind within
-  pub statement : sort_of kind ≡ Sort.Statement
+  pub starts : has_start (sort_of kind) ≡ true
   pub stays : passes_in kind ≡ false
   pub exists : HasPlace items place
   pub loops : loops_around within ≡ loops_around around

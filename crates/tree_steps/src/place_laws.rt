@@ -1,6 +1,6 @@
 //! The laws of the places of runs, each a function that does nothing and whose contract states it.
 ghost use Rattle.tree_steps.specs.ListVerdict.{ListMarksFollowItems, ListVerdictsFollowItems};
-ghost use Rattle.tree_steps.specs.PlaceLaws.{AgreementKeepsLoops, AgreementKeepsPlaces, AgreementKeepsStarts, OthersBeginThemselves, PlacesIgnoreElision, PlacesIgnoreRoom, SitesAreOfSubstance, SitesStand, StandingSlotsHaveSites, StatementsBegin};
+ghost use Rattle.tree_steps.specs.PlaceLaws.{AgreementKeepsLoops, AgreementKeepsPlaces, AgreementKeepsStarts, OthersBeginThemselves, PlacesIgnoreElision, PlacesIgnoreRoom, RunsBegin, SitesAreOfSubstance, SitesStand, StandingSlotsHaveSites};
 
 use template_tree::checks_ignore_room_and_elision;
 
@@ -14,12 +14,12 @@ pub fn places_ignore_room_and_elision()
     checks_ignore_room_and_elision();
 }
 
-/// The site of a slot is of the node that stands there; a run that comes to a statement begins in the
-/// loops and the procedure in which that stands.
+/// The site of a slot is of the node that stands there; a run that comes to a node at whose start it has a
+/// place begins in the loops and the procedure in which that stands.
 pub fn sites_stand()
     ensures found { SitesStand }
     ensures standing { StandingSlotsHaveSites }
-    ensures begins { StatementsBegin }
+    ensures begins { RunsBegin }
     ensures others { OthersBeginThemselves }
 {}
 

@@ -63,7 +63,7 @@ step_number place (instr ∷ instrs) = if is_step place instr then Some 0 else o
 -- the address of a point of a located node by its kind, where no step ends there
 abbrev pub passed_address : PlainLocated → (point : ℕ) → Option ℕ
 passed_address found point =
-    if passes_in found.node.own.kind then (if point == 0 then Some found.start else None)
+    if passes_in found.node.own.kind && (point == 0) then Some found.start
     else
     (if is_call found.node.own.kind && (point == 1) then Some (found.start + kept_length found.node) else None)
 

@@ -12,21 +12,20 @@ use Rattle.std.proofs.lemmas.Option.{get_or_from_slice_get, same_Some, slice_get
 use Rattle.plcs_base.specs.declared.declared.Declared.{Declared}
 use Rattle.plcs_base.specs.declared.mark.MarkKind.{MarkKind}
 use Rattle.plcs_grammar.specs.declared.node_kind.NodeKind.{NodeKind}
-use Rattle.plcs_grammar.specs.declared.node_kind.Sort.{Sort}
 use Rattle.plcs_grammar.specs.declared.template.Template.{Template}
 use Rattle.plcs_grammar.specs.PlainPhrase.{PlainPhrase}
 use Rattle.template_tree.specs.Checks.Environment.{Items, items_inside, procedure_at}
 use Rattle.template_tree.specs.Checks.Marks.{Marks, is_phrase_marked, surroundings}
 use Rattle.template_tree.specs.Checks.Mention.{phrase_at}
 use Rattle.template_tree.specs.Programs.Part.{part_at}
-use Rattle.template_tree.specs.Positions.Place.{PlainPlace, Site, Start, has_point, is_statement, passes_in, place_at, place_exists_at, site}
+use Rattle.template_tree.specs.Positions.Place.{PlainPlace, Site, Start, has_point, has_start, passes_in, place_at, place_exists_at, site}
 use Rattle.template_tree.specs.Programs.PlainTree.{Forest, Label, PlainNode, PlainTree}
 use Rattle.template_tree.specs.Programs.Program.{sort_of}
 use Rattle.template_tree.specs.Programs.Slots.{times}
 use Rattle.template_tree.specs.Programs.Tree.{IsTree}
 use Rattle.template_tree.specs.Checks.Verdict.{verdict}
 use Rattle.tree_steps.specs.AgreementLaws.{SlotsStandOnce}
-use Rattle.tree_steps.specs.PlaceLaws.{SitesStand, StandingSlotsHaveSites, StatementsBegin}
+use Rattle.tree_steps.specs.PlaceLaws.{RunsBegin, SitesStand, StandingSlotsHaveSites}
 use Rattle.tree_steps.specs.StandingSlot.{Around, StandsInside, loop_by_kind, loops_around, outermost_slot}
 use Rattle.plcs_store.specs.declared.frame.Frame.{Frame}
 use Rattle.plcs_store.specs.Act.{Act, done}
@@ -38,7 +37,6 @@ use Rattle.plcs_store.specs.Spot.{Spot, callee_named, point_spot, site_spot, spo
 use Rattle.plcs_store.specs.Step.{PlainStepAnswer, Step, caller_place, leave_answer, spot_answer, waits_for}
 use Rattle.plcs_store.specs.StepLaws.{FittingCallersWait, FittingRunsStep, StepsDoAllowedActs, StepsOfRunsTakenBack}
 use Rattle.plcs_store.specs.Undone.{step_undone, undo_of}
-use Rattle.plcs_store.proofs.FirstPlace.{statement_sort}
 use Rattle.plcs_store.proofs.FittingSteps.Acts.{IsAnswerOf, KeepsLoop}
 use Rattle.plcs_store.proofs.FittingSteps.Locations.{HasItems}
 use Rattle.plcs_store.proofs.FittingSteps.Outcomes.{Has}
@@ -97,34 +95,22 @@ kind_waits (NodeKind.Filled template) point e = template_waits template point e
 kind_waits other point e = absurd (false≢true e)
 
 template_start : (marked : Bool) (label : Label) (template : Template)
-    → ((is_statement (sort_of (NodeKind.Filled template)) && true) || has_point marked label (NodeKind.Filled template) 0) ≡ true
-    → is_statement (sort_of (NodeKind.Filled template)) ≡ true
-template_start marked label Template.Fixed e = absurd (false≢true e)
-template_start marked label Template.Bit e = absurd (false≢true e)
-template_start marked label Template.Char e = absurd (false≢true e)
-template_start marked label Template.If e = refl
-template_start marked label Template.IfElse e = refl
-template_start marked label Template.While e = refl
-template_start marked label Template.For e = refl
-template_start marked label Template.Group e = refl
-template_start marked label Template.Get e = refl
-template_start marked label Template.Put e = refl
-template_start marked label Template.PutSkip e = refl
-template_start marked label Template.Call e = refl
-template_start marked label Template.Return e = refl
-template_start marked label Template.Comment e = refl
-template_start marked label Template.Proc e = absurd (false≢true e)
-template_start marked label Template.ProcP e = absurd (false≢true e)
+    → ((has_start (sort_of (NodeKind.Filled template)) && true) || has_point marked label (NodeKind.Filled template) 0) ≡ true
+    → has_start (sort_of (NodeKind.Filled template)) ≡ true
+template_start marked label Template.Fixed e = e
+template_start marked label Template.Bit e = e
+template_start marked label Template.Char e = e
+template_start marked label Template.Proc e = e
+template_start marked label Template.ProcP e = e
+template_start marked label other e = refl
 
--- the starts of statements alone are places
-kind_start : (marked : Bool) (label : Label) (kind : NodeKind) → ((is_statement (sort_of kind) && true) || has_point marked label kind 0) ≡ true
-    → is_statement (sort_of kind) ≡ true
-kind_start marked label NodeKind.DeclarationHole e = absurd (false≢true e)
+-- point 0 is a place only where a node has a start
+kind_start : (marked : Bool) (label : Label) (kind : NodeKind) → ((has_start (sort_of kind) && true) || has_point marked label kind 0) ≡ true
+    → has_start (sort_of kind) ≡ true
 kind_start marked label NodeKind.StatementHole e = refl
-kind_start marked label NodeKind.ProcedureHole e = absurd (false≢true e)
-kind_start marked label NodeKind.Main e = absurd (false≢true e)
 kind_start marked label NodeKind.Assign e = refl
 kind_start marked label (NodeKind.Filled template) e = template_start marked label template e
+kind_start marked label other e = e
 
 -- ---- a frame of a tree
 
@@ -143,7 +129,7 @@ no_mark (Some kind) e = absurd (false≢true (sym e))
 has_is : {A : Type 0} (Is : A → Type 0) (one other : Option A) → one ≡ other → Has Is other → Has Is one
 has_is Is one other e is = subst (Has Is) (sym e) is
 
-module _ (sited : SitesStand) (standing : StandingSlotsHaveSites) (begins : StatementsBegin) (same_place : SlotsStandOnce) where
+module _ (sited : SitesStand) (standing : StandingSlotsHaveSites) (begins : RunsBegin) (same_place : SlotsStandOnce) where
   -- the node in the slot of a frame that stands somewhere, and its procedure
   record Sited (program : Forest) (slot : ℕ) (kind : NodeKind) (around : Around) : Type 0 where
     found : Site
@@ -244,10 +230,10 @@ module _ (sited : SitesStand) (standing : StandingSlotsHaveSites) (begins : Stat
         ∙ (ap (λ (s : ℕ). get (Marks program) (phrase_at s part)) slot_is ∙ no_mark (get (Marks program) (phrase_at slot part)) plain)
 
     -- a place at the start of its slot is where a run begins that comes there
-    stays : (frame : Frame) (kind : NodeKind) (around : Around) → StandsInside program frame.place.slot.0 kind around → sort_of kind ≡ Sort.Statement
+    stays : (frame : Frame) (kind : NodeKind) (around : Around) → StandsInside program frame.place.slot.0 kind around → has_start (sort_of kind) ≡ true
         → Start program frame.place.slot.0 ≡ Some (frame_place frame) → passes_in kind ≡ false
-    stays frame kind around stands sort start =
-        let (place, began, at_start) = begins tree frame.place.slot.0 kind around is stands sort in
+    stays frame kind around stands starts start =
+        let (place, began, at_start) = begins tree frame.place.slot.0 kind around is stands starts in
         let same : frame_place frame ≡ place = same_Some (frame_place frame) place (sym start ∙ began) in
         let kinds =
         same_place program frame.place.slot.0 kind at_start.kind around at_start.within (is.once frame.place.slot.0) stands
@@ -297,9 +283,12 @@ module _ (sited : SitesStand) (standing : StandingSlotsHaveSites) (begins : Stat
         (λ part phrase e plain. fine_phrase slot at.found at.its at.slot_is part phrase e plain) is.once leaves point
         (node_sound program label at.found.inner at.node is.program.sound).parts exists
         (λ zero_is.
-        let statement : is_statement (sort_of label.kind) ≡ true =
-        kind_start (marked 0) label label.kind (subst (λ (n : ℕ). place_exists_at (marked 0) (Some at.found) n ≡ true) zero_is exists) in
-        (statement, ap passes_in (sym at.kind_is) ∙ stays frame kind around stands.stands (ap sort_of at.kind_is ∙ statement_sort (sort_of label.kind) statement) (start zero_is)))
+        let starts : has_start (sort_of label.kind) ≡ true =
+        kind_start (marked 0) label label.kind (subst (λ (n : ℕ). place_exists_at (marked 0) (Some at.found) n ≡ true) zero_is exists) in (
+          starts,
+          ap passes_in (sym at.kind_is)
+              ∙ stays frame kind around stands.stands (ap (λ (k : NodeKind). has_start (sort_of k)) at.kind_is ∙ starts) (start zero_is),
+        ))
         (ap (λ (k : NodeKind). is_waiting_place k point) (sym at.kind_is) ∙ stands.waiting)
         (λ for_is one_is. keeps_loop frame (items_inside own.inner) has kind around stands.stands (at.kind_is ∙ for_is) one_is label.slot at.slot_is top) in
         has_then (IsAnswerOf c) (spot_answer (spot_at program) input c) (option_and_then (spot_at program) (top_place c.frames))

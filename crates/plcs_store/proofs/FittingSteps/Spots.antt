@@ -17,7 +17,7 @@ use Rattle.plcs_grammar.specs.Template.{row_of}
 use Rattle.template_tree.specs.Checks.Environment.{Sig, items_inside}
 use Rattle.template_tree.specs.Checks.Marks.{surroundings}
 use Rattle.template_tree.specs.Programs.Part.{part_at}
-use Rattle.template_tree.specs.Positions.Place.{PlainPlace, Site, begin, has_point, is_statement, item_count, passes_in, place_at, place_exists_at}
+use Rattle.template_tree.specs.Positions.Place.{PlainPlace, Site, begin, has_point, has_start, item_count, passes_in, place_at, place_exists_at}
 use Rattle.template_tree.specs.Programs.PlainTree.{Forest, PlainNode}
 use Rattle.template_tree.specs.Programs.Program.{AreParts, IsPartPhrase, parts_of, sort_of}
 use Rattle.template_tree.specs.Programs.Slots.{times}
@@ -82,7 +82,7 @@ not_so : (test : Bool) → not test ≡ true → test ≡ false
 not_so true e = absurd (false≢true e)
 not_so false e = refl
 
-later_point : (statement later : Bool) → ((statement && false) || later) ≡ true → later ≡ true
+later_point : (starts later : Bool) → ((starts && false) || later) ≡ true → later ≡ true
 later_point true later e = e
 later_point false later e = e
 
@@ -318,36 +318,36 @@ module _ (program : Forest) (input : List ℕ) (c : PlainConfiguration) (node : 
   -- ---- the tables
 
   template_starts : (template : Template) → AreParts (parts_of (row_of (NodeKind.Filled template)).line) parts
-      → is_statement (sort_of (NodeKind.Filled template)) ≡ true → passes_in (NodeKind.Filled template) ≡ false
+      → has_start (sort_of (NodeKind.Filled template)) ≡ true → passes_in (NodeKind.Filled template) ≡ false
       → Has Goes (template_start marked callees found template)
-  template_starts Template.Fixed are statement stays = absurd (false≢true statement)
-  template_starts Template.Bit are statement stays = absurd (false≢true statement)
-  template_starts Template.Char are statement stays = absurd (false≢true statement)
-  template_starts Template.If are statement stays =
+  template_starts Template.Fixed are start stays = absurd (false≢true start)
+  template_starts Template.Bit are start stays = absurd (false≢true start)
+  template_starts Template.Char are start stays = absurd (false≢true start)
+  template_starts Template.If are start stays =
       tests_go (NodeKind.Filled Template.If) (begin found.inner found.after) found.after are refl
-  template_starts Template.IfElse are statement stays =
+  template_starts Template.IfElse are start stays =
       tests_go (NodeKind.Filled Template.IfElse) (begin found.inner found.after) (begin (behind_first found.inner) found.after) are refl
-  template_starts Template.While are statement stays =
+  template_starts Template.While are start stays =
       tests_go (NodeKind.Filled Template.While) (begin found.inner (place_at found.label.slot 0)) found.after are refl
-  template_starts Template.For are statement stays = for_goes (begin found.inner (place_at found.label.slot 1)) found.after are
-  template_starts Template.Group are statement stays = absurd (false≢true (sym stays))
-  template_starts Template.Get are statement stays = gets_go (NodeKind.Filled Template.Get) are refl
-  template_starts Template.Put are statement stays = puts_go (NodeKind.Filled Template.Put) false are refl
-  template_starts Template.PutSkip are statement stays = puts_go (NodeKind.Filled Template.PutSkip) true are refl
-  template_starts Template.Call are statement stays = calls_go (NodeKind.Filled Template.Call) are refl
-  template_starts Template.Return are statement stays = leaves
-  template_starts Template.Comment are statement stays = absurd (false≢true (sym stays))
-  template_starts Template.Proc are statement stays = absurd (false≢true statement)
-  template_starts Template.ProcP are statement stays = absurd (false≢true statement)
+  template_starts Template.For are start stays = for_goes (begin found.inner (place_at found.label.slot 1)) found.after are
+  template_starts Template.Group are start stays = absurd (false≢true (sym stays))
+  template_starts Template.Get are start stays = gets_go (NodeKind.Filled Template.Get) are refl
+  template_starts Template.Put are start stays = puts_go (NodeKind.Filled Template.Put) false are refl
+  template_starts Template.PutSkip are start stays = puts_go (NodeKind.Filled Template.PutSkip) true are refl
+  template_starts Template.Call are start stays = calls_go (NodeKind.Filled Template.Call) are refl
+  template_starts Template.Return are start stays = leaves
+  template_starts Template.Comment are start stays = absurd (false≢true (sym stays))
+  template_starts Template.Proc are start stays = absurd (false≢true start)
+  template_starts Template.ProcP are start stays = absurd (false≢true start)
 
-  starts : (kind : NodeKind) → AreParts (parts_of (row_of kind).line) parts → is_statement (sort_of kind) ≡ true → passes_in kind ≡ false
+  starts : (kind : NodeKind) → AreParts (parts_of (row_of kind).line) parts → has_start (sort_of kind) ≡ true → passes_in kind ≡ false
       → Has Goes (start_spot marked callees found kind)
-  starts NodeKind.DeclarationHole are statement stays = absurd (false≢true statement)
-  starts NodeKind.StatementHole are statement stays = tt
-  starts NodeKind.ProcedureHole are statement stays = absurd (false≢true statement)
-  starts NodeKind.Main are statement stays = absurd (false≢true statement)
-  starts NodeKind.Assign are statement stays = assigns_go NodeKind.Assign are refl
-  starts (NodeKind.Filled template) are statement stays = template_starts template are statement stays
+  starts NodeKind.DeclarationHole are start stays = absurd (false≢true start)
+  starts NodeKind.StatementHole are start stays = tt
+  starts NodeKind.ProcedureHole are start stays = absurd (false≢true start)
+  starts NodeKind.Main are start stays = absurd (false≢true start)
+  starts NodeKind.Assign are start stays = assigns_go NodeKind.Assign are refl
+  starts (NodeKind.Filled template) are start stays = template_starts template are start stays
 
   template_points : (template : Template) (point : ℕ) → AreParts (parts_of (row_of (NodeKind.Filled template)).line) parts
       → has_point (marked 0) found.label (NodeKind.Filled template) (suc point) ≡ true → is_waiting_place (NodeKind.Filled template) (suc point) ≡ false
@@ -389,15 +389,15 @@ module _ (program : Forest) (input : List ℕ) (c : PlainConfiguration) (node : 
 
   -- what stands at a point of the site goes
   pub site_goes : (point : ℕ) → AreParts (parts_of (row_of found.label.kind).line) parts → place_exists_at (marked 0) (Some found) point ≡ true
-      → (point ≡ 0 → (is_statement (sort_of found.label.kind) ≡ true) × (passes_in found.label.kind ≡ false))
+      → (point ≡ 0 → (has_start (sort_of found.label.kind) ≡ true) × (passes_in found.label.kind ≡ false))
       → is_waiting_place found.label.kind point ≡ false
       → (found.label.kind ≡ NodeKind.Filled Template.For → point ≡ 1 → KeepsLoop c items has found.label.slot)
       → Has Goes (site_spot marked callees found point)
   site_goes zero are exists start ready keeps = let is = start refl in starts found.label.kind are is.0 is.1
   site_goes (suc point) are exists start ready keeps =
       points found.label.kind point are
-      (later_point (is_statement (sort_of found.label.kind)) (has_point (marked 0) found.label found.label.kind (suc point))
-      (ap (λ (b : Bool). (is_statement (sort_of found.label.kind) && b) || has_point (marked 0) found.label found.label.kind (suc point))
+      (later_point (has_start (sort_of found.label.kind)) (has_point (marked 0) found.label found.label.kind (suc point))
+      (ap (λ (b : Bool). (has_start (sort_of found.label.kind) && b) || has_point (marked 0) found.label found.label.kind (suc point))
       (sym (ne_eqb (suc point) 0 (λ same. omega (arith, same))))
       ∙ exists))
       ready keeps

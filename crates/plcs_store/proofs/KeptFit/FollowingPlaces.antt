@@ -9,7 +9,7 @@ use Rattle.plcs_grammar.specs.declared.node_kind.NodeKind.{NodeKind}
 use Rattle.plcs_grammar.specs.declared.template.Template.{Template}
 use Rattle.plcs_grammar.specs.PlainPhrase.{PlainPhrase, PlainVarRef}
 use Rattle.template_tree.specs.Programs.Part.{part_at}
-use Rattle.template_tree.specs.Positions.Place.{PlainPlace, Site, begin, has_point, inner_end, is_statement, item_count, place_at, place_exists_at, site}
+use Rattle.template_tree.specs.Positions.Place.{PlainPlace, Site, begin, has_point, has_start, inner_end, item_count, place_at, place_exists_at, site}
 use Rattle.template_tree.specs.Programs.PlainTree.{Forest}
 use Rattle.template_tree.specs.Programs.Program.{sort_of}
 use Rattle.template_tree.specs.Programs.Slots.{times}
@@ -93,10 +93,10 @@ loops_here found around point = loops_at found.label.kind around (place_at found
 module _ (laws : SiteLaws) (program : Forest) (few : (slot : ℕ) → times slot program ≤ 1)
     (marked : ℕ → Bool) (found : Site) (sited : Sited program found)
     (there : site program found.label.slot ≡ Some found) (mark_is : marked 0 ≡ is_first_marked program found.label.slot) where
-  -- behind a statement
-  after_goes_on : (kind : NodeKind) → found.label.kind ≡ kind → is_statement (sort_of kind) ≡ true
+  -- behind the node at the site
+  after_goes_on : (kind : NodeKind) → found.label.kind ≡ kind → has_start (sort_of kind) ≡ true
       → GoesOn program (home found sited.around) (loops_around sited.around) found.after
-  after_goes_on kind is statement = sited.after (ap (λ (k : NodeKind). is_statement (sort_of k)) is ∙ statement)
+  after_goes_on kind is starts = sited.after (ap (λ (k : NodeKind). has_start (sort_of k)) is ∙ starts)
 
   -- the loops of what stands inside a node of a kind that is no loop
   plain_inside : (kind : NodeKind) → found.label.kind ≡ kind → ((slot : ℕ) → loop_by_kind kind slot ≡ [])
@@ -106,14 +106,14 @@ module _ (laws : SiteLaws) (program : Forest) (few : (slot : ℕ) → times slot
       ∙ append-nil (loops_around sited.around)
 
   -- among what stands inside a node that is no loop, where the run goes on behind it
-  inside_before_after : (kind : NodeKind) (items : Forest) → found.label.kind ≡ kind → is_statement (sort_of kind) ≡ true
+  inside_before_after : (kind : NodeKind) (items : Forest) → found.label.kind ≡ kind → has_start (sort_of kind) ≡ true
       → ((slot : ℕ) → loop_by_kind kind slot ≡ []) → AreWithin program ((found.label.slot, found.label.kind) ∷ sited.around) items
       → GoesOn program (home found sited.around) (loops_around sited.around) (begin items found.after)
-  inside_before_after kind items is statement none within =
+  inside_before_after kind items is starts none within =
       let same = plain_inside kind is none in
       subst (λ (kept : List ℕ). GoesOn program (home found sited.around) kept (begin items found.after)) same
       (begin_goes_on laws program few (found.label.slot, found.label.kind) sited.around items found.after within
-      (subst (λ (kept : List ℕ). GoesOn program (home found sited.around) kept found.after) (sym same) (after_goes_on kind is statement)))
+      (subst (λ (kept : List ℕ). GoesOn program (home found sited.around) kept found.after) (sym same) (after_goes_on kind is starts)))
 
   -- among what stands inside a node to which the run comes back
   inside_before_end : (kind : NodeKind) (point : ℕ) (loops : List ℕ) → found.label.kind ≡ kind → inner_end kind ≡ Some point
@@ -127,12 +127,12 @@ module _ (laws : SiteLaws) (program : Forest) (few : (slot : ℕ) → times slot
   -- a place exists at the site
   exists_here : (point : ℕ) (kind : NodeKind) → found.label.kind ≡ kind
       → ((marked : Bool) → marked ≡ is_first_marked program found.label.slot
-      → IsTrue ((is_statement (sort_of kind) && (point == 0)) || has_point marked found.label kind point))
+      → IsTrue ((has_start (sort_of kind) && (point == 0)) || has_point marked found.label kind point))
       → HasPlace program (place_at found.label.slot point)
   exists_here point kind is exists =
       let mark : Bool = is_first_marked program found.label.slot in
       subst (λ (one : Option Site). IsTrue (place_exists_at mark one point)) (sym there)
-      (subst (λ (k : NodeKind). IsTrue ((is_statement (sort_of k) && (point == 0)) || has_point mark found.label k point)) (sym is) (exists mark refl))
+      (subst (λ (k : NodeKind). IsTrue ((has_start (sort_of k) && (point == 0)) || has_point mark found.label k point)) (sym is) (exists mark refl))
 
   -- where a run goes on behind an item of a GET
   item_goes_on : (item : ℕ) → found.label.kind ≡ NodeKind.Filled Template.Get → marked 0 ≡ false
@@ -173,7 +173,7 @@ module _ (laws : SiteLaws) (program : Forest) (few : (slot : ℕ) → times slot
         procedure_is = refl;
       }
 
-  -- ---- the start of each statement
+  -- ---- the start of each node
 
   get_follows : (item : ℕ) → found.label.kind ≡ NodeKind.Filled Template.Get → marked 0 ≡ false
       → WhenThere (Follows program (home found sited.around) (loops_around sited.around) found.label.slot) (get_spot found item)

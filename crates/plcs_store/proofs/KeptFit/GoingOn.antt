@@ -1,5 +1,5 @@
 -- Where a run goes on: a place of the procedure that it is in, in the loops that it keeps, where nothing waits.
--- Behind a statement stands the next one, or the place where what encloses it goes on; the induction on the nodes
+-- Behind a node stands the next one, or the place where what encloses it goes on; the induction on the nodes
 -- carries that the place behind them is one where the run may go on in the loops around them.
 use Rattle.std.specs.Prelude.{◌≡◌, refl, ℕ, suc, ◌<◌, ◌≤◌, ◌==◌, ◌&&◌, ◌||◌, Bool, true, false, if◌then◌else◌, List, [], ◌∷◌, ◌++◌, length, slice_index_or, IsTrue, Option, Some, None}
 use Rattle.std.specs.Option.{option_or}
@@ -10,7 +10,7 @@ use Rattle.plcs_grammar.specs.declared.node_kind.NodeKind.{NodeKind}
 use Rattle.plcs_grammar.specs.declared.node_kind.Sort.{Sort}
 use Rattle.plcs_grammar.specs.declared.template.Template.{Template}
 use Rattle.plcs_grammar.specs.Template.{program_sections, row_of}
-use Rattle.template_tree.specs.Positions.Place.{PlainPlace, Site, Start, begin, end_at, has_point, in_turn, inner_end, is_statement, passes_in, place_at, place_exists_at, site, site_among, template_end}
+use Rattle.template_tree.specs.Positions.Place.{PlainPlace, Site, Start, begin, end_at, has_point, in_turn, begins_run, inner_end, has_start, passes_in, place_at, place_exists_at, site, site_among, template_end}
 use Rattle.template_tree.specs.Programs.PlainTree.{Forest, Label}
 use Rattle.template_tree.specs.Programs.Program.{AreNodes, Fill, sort_of, sorts}
 use Rattle.template_tree.specs.Programs.Slots.{times}
@@ -19,8 +19,8 @@ use Rattle.tree_steps.specs.PlaceLaws.{OthersBeginThemselves, SitesStand, Standi
 use Rattle.tree_steps.specs.RunPlace.{HasPlace, is_first_marked}
 use Rattle.tree_steps.specs.StandingSlot.{Around, StandsBelow, StandsInside, loop_by_kind, loops_around, outermost_slot}
 use Rattle.plcs_store.specs.Fits.{is_waiting_place, loops_at}
-use Rattle.plcs_store.proofs.FirstPlace.{same_loops}
-use Rattle.plcs_store.proofs.NewRuns.{starts_no_wait}
+use Rattle.plcs_store.proofs.FirstPlace.{begun_starts, same_loops}
+use Rattle.plcs_store.proofs.NewRuns.{start_point, starts_no_wait}
 
 -- the laws of the places of a tree
 pub record SiteLaws : Type 0 where
@@ -48,13 +48,13 @@ GoesOn program procedure loops place = MayStand program false procedure loops pl
 abbrev pub AreWithin : (program : Forest) → (above : Around) → Forest → Type 0
 AreWithin program above items = (slot : ℕ) (kind : NodeKind) (around : Around) → StandsBelow above items slot kind around → StandsInside program slot kind around
 
--- the site is that of a node in the program; a run may go on behind it, if it is a statement
+-- the site is that of a node in the program; a run may go on behind it, if it has a start
 pub record Sited (program : Forest) (found : Site) : Type 0 where
   pub around : Around
   pub stands : StandsInside program found.label.slot found.label.kind around
   pub within : AreWithin program ((found.label.slot, found.label.kind) ∷ around) found.inner
   pub after :
-      is_statement (sort_of found.label.kind) ≡ true
+      has_start (sort_of found.label.kind) ≡ true
       → GoesOn program (outermost_slot found.label.slot around) (loops_around around) found.after
 
 -- ---- ends of what stands inside a node
@@ -63,7 +63,7 @@ pub record Sited (program : Forest) (found : Site) : Type 0 where
 abbrev EndIsPlace : Label → NodeKind → Option ℕ → Type 0
 EndIsPlace label kind None = Unit {0}
 EndIsPlace label kind (Some point) =
-    ((marked : Bool) → IsTrue ((is_statement (sort_of kind) && (point == 0)) || has_point marked label kind point))
+    ((marked : Bool) → IsTrue ((has_start (sort_of kind) && (point == 0)) || has_point marked label kind point))
     × (is_waiting_place kind point ≡ false)
     × (point ≡ 0 → passes_in kind ≡ false)
     × ((slot : ℕ) → (if point == 1 then loop_by_kind kind slot else []) ≡ loop_by_kind kind slot)
@@ -97,10 +97,6 @@ without_end NodeKind.Main = tt
 without_end (NodeKind.Filled template) = template_without_end template
 without_end other = λ slot. refl
 
-statement_exists : (statement others : Bool) → statement ≡ true → IsTrue ((statement && true) || others)
-statement_exists true others e = refl
-statement_exists false others e = absurd (false≢true e)
-
 -- ---- the outermost nodes
 
 -- whether the sort is that of the nodes of a program: of main or of procedures
@@ -126,9 +122,10 @@ program_outermost items (mains, others, same, main, (own, none, others_same, pro
     ∙ ap (λ (behind : List Sort). (Sort.Main ∷ []) ++ behind) (others_same ∙ ap (λ (end : List Sort). own ++ end) nothing)))
     (refl, are_outermost own procedures.1)
 
-no_statement_outermost : (sort : Sort) → is_outermost sort ≡ true → is_statement sort ≡ true → ⊥
-no_statement_outermost Sort.Statement outermost statement = false≢true outermost
-no_statement_outermost other outermost statement = false≢true statement
+no_start_outermost : (sort : Sort) → is_outermost sort ≡ true → has_start sort ≡ true → ⊥
+no_start_outermost Sort.Main outermost starts = false≢true starts
+no_start_outermost Sort.Procedure outermost starts = false≢true starts
+no_start_outermost other outermost starts = false≢true outermost
 
 -- what has no point where a run goes on behind what stands inside it has nothing inside
 abbrev NothingWithout : NodeKind → Option ℕ → Type 0
@@ -176,11 +173,11 @@ module _ (laws : SiteLaws) (program : Forest) (few : (slot : ℕ) → times slot
       let same = laws.once program slot has.0.label.kind kind there.1 around (few slot) there.2 stands in
       subst (λ (one : Option Site). IsTrue (place_exists_at (is_first_marked program slot) one point)) (sym has.1) (exists has.0 has.1 same.0)
 
-  -- a run may go on at a statement that doesn't pass it on
-  pub statement_goes_on : (slot : ℕ) (kind : NodeKind) (around : Around) → StandsInside program slot kind around
-      → is_statement (sort_of kind) ≡ true → passes_in kind ≡ false
+  -- a run may go on at the start of what doesn't pass it on
+  pub start_goes_on : (slot : ℕ) (kind : NodeKind) (around : Around) → StandsInside program slot kind around
+      → has_start (sort_of kind) ≡ true → passes_in kind ≡ false
       → GoesOn program (outermost_slot slot around) (loops_around around) (place_at slot 0)
-  statement_goes_on slot kind around stands statement stays =
+  start_goes_on slot kind around stands starts stays =
       record {
         kind = kind;
         around = around;
@@ -188,8 +185,8 @@ module _ (laws : SiteLaws) (program : Forest) (few : (slot : ℕ) → times slot
         exists =
             place_there slot 0 kind around stands
             (λ one is same.
-            statement_exists (is_statement (sort_of one.label.kind)) (has_point (is_first_marked program slot) one.label one.label.kind 0)
-            (ap (λ (k : NodeKind). is_statement (sort_of k)) same ∙ statement));
+            start_point (sort_of one.label.kind) (has_point (is_first_marked program slot) one.label one.label.kind 0)
+            (ap (λ (k : NodeKind). has_start (sort_of k)) same ∙ starts));
         waiting = starts_no_wait kind;
         start = λ e. laws.others program slot kind around (few slot) stands stays;
         loops_are = append-nil (loops_around around);
@@ -210,7 +207,7 @@ module _ (laws : SiteLaws) (program : Forest) (few : (slot : ℕ) → times slot
         exists =
             place_there slot point kind around stands
             (λ one there same.
-            subst (λ (k : NodeKind). IsTrue ((is_statement (sort_of k) && (point == 0)) || has_point (is_first_marked program slot) one.label k point)) (sym same)
+            subst (λ (k : NodeKind). IsTrue ((has_start (sort_of k) && (point == 0)) || has_point (is_first_marked program slot) one.label k point)) (sym same)
             ((is one.label).0 (is_first_marked program slot)));
         waiting = (is any).1;
         start =
@@ -219,9 +216,9 @@ module _ (laws : SiteLaws) (program : Forest) (few : (slot : ℕ) → times slot
         procedure_is = refl;
       }
 
-  begin_level : (statement passes : Bool) (G : PlainPlace → Type 0) (one own other : PlainPlace)
-      → (passes ≡ true → G one) → (statement ≡ true → passes ≡ false → G own) → G other
-      → G (if statement then (if passes then one else own) else other)
+  begin_level : (begins passes : Bool) (G : PlainPlace → Type 0) (one own other : PlainPlace)
+      → (passes ≡ true → G one) → (begins ≡ true → passes ≡ false → G own) → G other
+      → G (if begins then (if passes then one else own) else other)
   begin_level false passes G one own other inside here later = later
   begin_level true true G one own other inside here later = inside refl
   begin_level true false G one own other inside here later = here refl refl
@@ -232,7 +229,7 @@ module _ (laws : SiteLaws) (program : Forest) (few : (slot : ℕ) → times slot
       → GoesOn program (outermost_slot node.0 above) (loops_around (node ∷ above)) (begin items behind)
   begin_goes_on node above Forest.nil behind within goes = goes
   begin_goes_on node above (Forest.cons label inner rest) behind within goes =
-      begin_level (is_statement (sort_of label.kind)) (passes_in label.kind)
+      begin_level (begins_run (sort_of label.kind)) (passes_in label.kind)
       (GoesOn program (outermost_slot node.0 above) (loops_around (node ∷ above)))
       (begin inner behind) (place_at label.slot 0) (begin rest behind)
       (λ pass.
@@ -240,7 +237,9 @@ module _ (laws : SiteLaws) (program : Forest) (few : (slot : ℕ) → times slot
       subst (λ (loops : List ℕ). GoesOn program (outermost_slot node.0 above) loops (begin inner behind)) same
       (begin_goes_on (label.slot, label.kind) (node ∷ above) inner behind (λ slot kind around h. within slot kind around (inr (inl h)))
       (subst (λ (loops : List ℕ). GoesOn program (outermost_slot node.0 above) loops behind) (sym same) goes)))
-      (λ statement stays. statement_goes_on label.slot label.kind (node ∷ above) (within label.slot label.kind (node ∷ above) (inl (refl, refl, refl))) statement stays)
+      (λ begins stays.
+      start_goes_on label.slot label.kind (node ∷ above) (within label.slot label.kind (node ∷ above) (inl (refl, refl, refl)))
+      (begun_starts (sort_of label.kind) begins) stays)
       (begin_goes_on node above rest behind (λ slot kind around h. within slot kind around (inr (inr h))) goes)
 
   -- a run may go on behind what stands inside a node, if it may behind the node
@@ -281,7 +280,7 @@ module _ (laws : SiteLaws) (program : Forest) (few : (slot : ℕ) → times slot
       let inner_turn : Bool = in_turn (row_of label.kind).sections in
       sited_level (label.slot == slot) (record { label = label; inner = inner; after = after })
       (site_among slot inner_turn inner inner_behind) (site_among slot turn rest behind) found
-      (λ same. record { around = node ∷ above; stands = stands; within = within_inner; after = λ statement. goes_after })
+      (λ same. record { around = node ∷ above; stands = stands; within = within_inner; after = λ starts. goes_after })
       (sited_below (label.slot, label.kind) (node ∷ above) slot inner_turn inner inner_behind found within_inner
       (inner_goes_on (inner_end label.kind) label.slot label.kind node above after refl stands goes_after))
       (sited_below node above slot turn rest behind found within_rest goes)
@@ -316,7 +315,7 @@ module _ (laws : SiteLaws) (program : Forest) (few : (slot : ℕ) → times slot
         around = [];
         stands = stands;
         within = within_inner;
-        after = λ statement. absurd (no_statement_outermost (sort_of label.kind) outermost.0 statement);
+        after = λ starts. absurd (no_start_outermost (sort_of label.kind) outermost.0 starts);
       })
       (sited_inside (inner_end label.kind) slot label inner behind found refl outermost.0 are.0.inner stands within_inner)
       (sited_outermost slot rest behind found within_rest are.2 outermost.1)

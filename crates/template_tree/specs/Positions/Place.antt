@@ -82,23 +82,38 @@ passes_in NodeKind.Main = false
 passes_in NodeKind.Assign = false
 passes_in (NodeKind.Filled template) = passes_in_template template
 
--- whether the sort is that of statements, at which a run may stand
-abbrev pub is_statement : Sort → Bool
-is_statement Sort.Main = false
-is_statement Sort.Procedure = false
-is_statement Sort.Declaration = false
-is_statement Sort.Statement = true
+-- whether a run that comes to nodes in order begins at a node of the sort; it passes over the others
+abbrev pub begins_run : Sort → Bool
+begins_run Sort.Main = false
+begins_run Sort.Procedure = false
+begins_run Sort.Declaration = false
+begins_run Sort.Statement = true
+
+-- whether the start of a node of the sort is a place of a run
+abbrev pub has_start : Sort → Bool
+has_start Sort.Main = false
+has_start Sort.Procedure = false
+has_start Sort.Declaration = false
+has_start Sort.Statement = true
+
+-- whether a run goes on behind a node of the sort once it has done that
+abbrev pub goes_on_behind : Sort → Bool
+goes_on_behind Sort.Main = false
+goes_on_behind Sort.Procedure = false
+goes_on_behind Sort.Declaration = false
+goes_on_behind Sort.Statement = true
 
 -- whether a run has its places in what stands in these sections one after the other, and not in one of it alone
 abbrev pub in_turn : List PlainSection → Bool
 in_turn [] = true
 in_turn (section ∷ sections) = is_list section.amount && in_turn sections
 
--- where a run begins among nodes in order: at the first statement, or inside it; behind them where there is none
+-- where a run begins that comes to nodes in order: at the first that begins a run, or inside it; behind them where
+-- there is none
 abbrev pub begin : Forest → PlainPlace → PlainPlace
 begin Forest.nil behind = behind
 begin (Forest.cons label inner rest) behind =
-    if is_statement (sort_of label.kind)
+    if begins_run (sort_of label.kind)
     then (if passes_in label.kind then begin inner behind else place_at label.slot 0)
     else begin rest behind
 
@@ -141,8 +156,8 @@ abbrev pub item_count : List (Option PlainPhrase) → ℕ
 item_count (Some (PlainPhrase.variable_list targets) ∷ parts) = length targets
 item_count other = 0
 
--- whether a run has a place at the point of a node of the template, apart from the start of a statement; a GET whose
--- phrase is marked has none
+-- whether a run has a place at the point of a node of the template, apart from its start; a GET whose phrase is marked
+-- has none
 abbrev pub has_template_point : Bool → Label → Template → ℕ → Bool
 has_template_point marked label Template.Fixed point = false
 has_template_point marked label Template.Bit point = false
@@ -161,8 +176,8 @@ has_template_point marked label Template.Comment point = false
 has_template_point marked label Template.Proc point = point == 1
 has_template_point marked label Template.ProcP point = point == 1
 
--- whether a run has a place at the point of a node of the kind, apart from the start of a statement; a GET whose phrase
--- is marked has none
+-- whether a run has a place at the point of a node of the kind, apart from its start; a GET whose phrase is marked has
+-- none
 abbrev pub has_point : Bool → Label → NodeKind → ℕ → Bool
 has_point marked label NodeKind.DeclarationHole point = false
 has_point marked label NodeKind.StatementHole point = false
@@ -175,7 +190,7 @@ has_point marked label (NodeKind.Filled template) point = has_template_point mar
 abbrev pub place_exists_at : Bool → Option Site → ℕ → Bool
 place_exists_at marked None point = false
 place_exists_at marked (Some site) point =
-    (is_statement (sort_of site.label.kind) && (point == 0)) || has_point marked site.label site.label.kind point
+    (has_start (sort_of site.label.kind) && (point == 0)) || has_point marked site.label site.label.kind point
 
 -- the place of a run exists, where it is told of each slot whether the first phrase there is marked
 abbrev pub Exists : (ℕ → Bool) → Forest → PlainPlace → Type 0

@@ -1,0 +1,12 @@
+use Rattle.resume_rule.proofs.LiveTemplates.{kind_tells, parts_tell}
+use Rattle.resume_rule.proofs.frame_question.template_differs.Goals as goal
+
+pub returns-then-not-has_kind : goal.returns-then-not-has_kind
+returns-then-not-has_kind c =
+    kind_tells c.args.tree.now.items c.args.frame.now c.args.kept.now c.in-Some.node.now.label c.in-Some.ensures.found c.if-frame-eq0.false
+    c.has_kind.result c.has_kind.ensures c.if-not-has_kind.true
+
+pub returns-else-not-has_kind : goal.returns-else-not-has_kind
+returns-else-not-has_kind c =
+    parts_tell c.args.tree.now.items c.args.frame.now c.args.kept.now c.in-Some.node.now.label c.in-Some.ensures.found c.if-frame-eq0.false
+    c.has_parts.result c.has_parts.ensures (c.has_kind.ensures.0 c.if-not-has_kind.false)
