@@ -22,7 +22,7 @@ use Rattle.template_tree.specs.Programs.PlainTree.{Forest, Label, PlainNode, roo
 use Rattle.template_tree.specs.Programs.Slots.{times}
 use Rattle.plcs_code.specs.Gen.{own_length}
 use Rattle.plcs_code.specs.OwnCode.{PlainOwnCode, own_code_by}
-use Rattle.plcs_code.specs.Pieces.{has_empty, has_marked_part, own_jumps, own_pieces, suspension}
+use Rattle.plcs_code.specs.Pieces.{count_pieces, has_empty, has_marked_part, own_jumps, own_pieces, suspension}
 use Rattle.plcs_code.specs.PlainInstr.{PlainInstr}
 use Rattle.plcs_code.specs.ProgramCode.{program_items}
 use Rattle.code_patch.specs.Private.CoversTouched.{CoversTouched}
@@ -218,7 +218,7 @@ module _ (change : Change) (before after : Forest) (is_touched : ℕ → Bool) (
 abbrev own_by_items : MarkMap → Label → List Declared → List PlainInstr
 own_by_items marks label its =
     let own = own_pieces marks its label in
-    let around = own_jumps marks label (length own.before) 0 0 in
+    let around = own_jumps marks label (count_pieces own) 0 0 in
     own.before
     ++ (option_to_list around.ahead ++ (option_to_list around.between ++ (own.behind ++ option_to_list around.back)))
 

@@ -18,7 +18,7 @@ use Rattle.template_tree.specs.Positions.Place.{PlainPlace, passes_in, place_at}
 use Rattle.plcs_code.specs.declared.node_span.NodeSpan.{NodeSpan}
 use Rattle.plcs_code.specs.Gen.{address_by_place, addresses_in, codes_around, codes_joined, is_call, node_address, place_cmp}
 use Rattle.plcs_code.specs.OwnCode.{EndInSlot, PlainOwnCode, jumps_beside}
-use Rattle.plcs_code.specs.Pieces.{CodeJumps, enter_jump, first_length, iteration_jump, kind_jumps, other_lengths, template_jumps, test_jump}
+use Rattle.plcs_code.specs.Pieces.{CodeJumps, count_pieces, enter_jump, first_length, iteration_jump, kind_jumps, other_lengths, template_jumps, test_back_jump, test_jump}
 use Rattle.plcs_code.specs.PlainInstr.{PlainInstr, place_of}
 use Rattle.code_patch.specs.SoundCode.{times_kept, OwnSteps, AreSound}
 use Rattle.code_patch.specs.CodeForest.{CodeForest, kept_codes, kept_lengths, kept_spans, told_code}
@@ -77,6 +77,10 @@ quiet_test : (stopped : Bool) (ahead : ℕ) → Quiet (test_jump stopped ahead)
 quiet_test true ahead = tt
 quiet_test false ahead = tt
 
+quiet_test_back : (stopped : Bool) (back : ℕ) → Quiet (test_back_jump stopped back)
+quiet_test_back true back = tt
+quiet_test_back false back = tt
+
 quiet_enter : (slot : ℕ) (counter : Option (List ℕ)) (stopped : Bool) (ahead : ℕ) → Quiet (enter_jump slot counter stopped ahead)
 quiet_enter slot counter true ahead = tt
 quiet_enter slot None false ahead = tt
@@ -87,32 +91,34 @@ quiet_iteration slot counter true back = tt
 quiet_iteration slot None false back = tt
 quiet_iteration slot (Some name) false back = tt
 
-template_quiet : (slot : ℕ) (counter : Option (List ℕ)) (all one : Bool) (before first others : ℕ) (template : Template)
-    → AreQuiet (template_jumps slot counter all one before first others template)
-template_quiet slot counter all one before first others Template.If =
+template_quiet : (slot : ℕ) (counter : Option (List ℕ)) (all one : Bool) (own first others : ℕ) (template : Template)
+    → AreQuiet (template_jumps slot counter all one own first others template)
+template_quiet slot counter all one own first others Template.If =
     record { ahead = quiet_test all (first + others); between = tt; back = tt }
-template_quiet slot counter all one before first others Template.IfElse =
+template_quiet slot counter all one own first others Template.IfElse =
     record { ahead = quiet_test all (first + 1); between = tt; back = tt }
-template_quiet slot counter all one before first others Template.While =
+template_quiet slot counter all one own first others Template.While =
     record { ahead = quiet_test all (first + others + 1); between = tt; back = tt }
-template_quiet slot counter all one before first others Template.For =
+template_quiet slot counter all one own first others Template.For =
     record {
       ahead = quiet_enter slot counter all (first + others + 2);
       between = tt;
       back = quiet_iteration slot counter one (first + others + 2);
     }
-template_quiet slot counter all one before first others other = record { ahead = tt; between = tt; back = tt }
+template_quiet slot counter all one own first others Template.Until =
+    record { ahead = tt; between = tt; back = quiet_test_back one (own + (first + others) + 1) }
+template_quiet slot counter all one own first others other = record { ahead = tt; between = tt; back = tt }
 
-kind_quiet : (slot : ℕ) (counter : Option (List ℕ)) (all one : Bool) (before first others : ℕ) (kind : NodeKind)
-    → AreQuiet (kind_jumps slot counter all one before first others kind)
-kind_quiet slot counter all one before first others (NodeKind.Filled template) =
-    template_quiet slot counter all one before first others template
-kind_quiet slot counter all one before first others other = record { ahead = tt; between = tt; back = tt }
+kind_quiet : (slot : ℕ) (counter : Option (List ℕ)) (all one : Bool) (own first others : ℕ) (kind : NodeKind)
+    → AreQuiet (kind_jumps slot counter all one own first others kind)
+kind_quiet slot counter all one own first others (NodeKind.Filled template) =
+    template_quiet slot counter all one own first others template
+kind_quiet slot counter all one own first others other = record { ahead = tt; between = tt; back = tt }
 
 -- the jumps of own code
 jumps_quiet : (own : PlainOwnCode) (lengths : List ℕ) → AreQuiet (jumps_beside own lengths)
 jumps_quiet own lengths =
-    kind_quiet own.slot own.counter own.all_stopped own.one_stopped (length own.pieces.before) (first_length lengths) (other_lengths lengths) own.kind
+    kind_quiet own.slot own.counter own.all_stopped own.one_stopped (count_pieces own.pieces) (first_length lengths) (other_lengths lengths) own.kind
 
 -- ---- steps in code
 

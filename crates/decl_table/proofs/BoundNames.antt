@@ -106,6 +106,7 @@ gives_binding (NodeKind.Filled Template.If) parts ty is = absurd (none-some ty i
 gives_binding (NodeKind.Filled Template.IfElse) parts ty is = absurd (none-some ty is)
 gives_binding (NodeKind.Filled Template.While) parts ty is = absurd (none-some ty is)
 gives_binding (NodeKind.Filled Template.For) parts ty is = absurd (none-some ty is)
+gives_binding (NodeKind.Filled Template.Until) parts ty is = absurd (none-some ty is)
 gives_binding (NodeKind.Filled Template.Group) parts ty is = absurd (none-some ty is)
 gives_binding (NodeKind.Filled Template.Get) parts ty is = absurd (none-some ty is)
 gives_binding (NodeKind.Filled Template.Put) parts ty is = absurd (none-some ty is)

@@ -222,6 +222,7 @@ no_type (NodeKind.Filled Template.If) parts other = refl
 no_type (NodeKind.Filled Template.IfElse) parts other = refl
 no_type (NodeKind.Filled Template.While) parts other = refl
 no_type (NodeKind.Filled Template.For) parts other = refl
+no_type (NodeKind.Filled Template.Until) parts other = refl
 no_type (NodeKind.Filled Template.Group) parts other = refl
 no_type (NodeKind.Filled Template.Get) parts other = refl
 no_type (NodeKind.Filled Template.Put) parts other = refl

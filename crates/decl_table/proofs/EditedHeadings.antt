@@ -81,6 +81,7 @@ heading_given (NodeKind.Filled Template.If) parts heading is = absurd (none-some
 heading_given (NodeKind.Filled Template.IfElse) parts heading is = absurd (none-some heading is)
 heading_given (NodeKind.Filled Template.While) parts heading is = absurd (none-some heading is)
 heading_given (NodeKind.Filled Template.For) parts heading is = absurd (none-some heading is)
+heading_given (NodeKind.Filled Template.Until) parts heading is = absurd (none-some heading is)
 heading_given (NodeKind.Filled Template.Group) parts heading is = absurd (none-some heading is)
 heading_given (NodeKind.Filled Template.Get) parts heading is = absurd (none-some heading is)
 heading_given (NodeKind.Filled Template.Put) parts heading is = absurd (none-some heading is)

@@ -97,6 +97,7 @@ few_in_template Template.If = omega arith
 few_in_template Template.IfElse = omega arith
 few_in_template Template.While = omega arith
 few_in_template Template.For = omega arith
+few_in_template Template.Until = omega arith
 few_in_template Template.Group = omega arith
 few_in_template Template.Get = omega arith
 few_in_template Template.Put = omega arith

@@ -214,6 +214,7 @@ node_fills (NodeKind.Filled Template.IfElse) items (own, others, is, one, (own_2
     rw (is, one, is_2, one_2, none) refl
 node_fills (NodeKind.Filled Template.While) items h = list_fills Sort.Statement items h
 node_fills (NodeKind.Filled Template.For) items h = list_fills Sort.Statement items h
+node_fills (NodeKind.Filled Template.Until) items h = list_fills Sort.Statement items h
 node_fills (NodeKind.Filled Template.Group) items h = list_fills Sort.Statement items h
 node_fills (NodeKind.Filled Template.Comment) items h = list_fills Sort.Statement items h
 node_fills kind items none = rw none refl

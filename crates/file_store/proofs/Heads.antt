@@ -120,12 +120,16 @@ declared_class (a ∷ []) = Class.lead_class
 declared_class (a ∷ (b ∷ rest)) =
     if b == 68 then template_class Template.Fixed else (if b == 84 then template_class Template.Bit else template_class Template.Char)
 
+-- a loop that tests a condition, told by the word behind its first
+abbrev tested_class : List ℕ → Class
+tested_class x = if starts x (codes "UNTIL") then template_class Template.Until else template_class Template.While
+
 abbrev keyword_class : List ℕ → Class
 keyword_class x =
     if starts x (codes "DECLARE") then declared_class (reverse x)
     else (if starts x (codes "IF") then template_class Template.IfElse
     else (if starts x (codes "DO;") then template_class Template.Group
-    else (if starts x (codes "DO") then (if is_keyword (word (drop 3 x)) then template_class Template.While else template_class Template.For)
+    else (if starts x (codes "DO") then (if is_keyword (word (drop 3 x)) then tested_class (drop 3 x) else template_class Template.For)
     else (if starts x (codes "GET") then template_class Template.Get
     else (if starts x (codes "PUT LIST") then template_class Template.Put
     else (if starts x (codes "PUT") then template_class Template.PutSkip
@@ -224,6 +228,7 @@ head_class laws (NodeKind.Filled Template.While) parts same h = refl
 head_class laws (NodeKind.Filled Template.For) [] same h = absurd h
 head_class laws (NodeKind.Filled Template.For) (part ∷ parts) same h =
     rw (no_word laws Category.Variable (part_text Category.Variable part) _ (not_comment Category.Variable is_part_named refl refl) (line_part Category.Variable part h.0) refl) refl
+head_class laws (NodeKind.Filled Template.Until) parts same h = refl
 head_class laws (NodeKind.Filled Template.Group) parts same h = refl
 head_class laws (NodeKind.Filled Template.Get) parts same h = refl
 head_class laws (NodeKind.Filled Template.Put) parts same h = refl

@@ -51,19 +51,20 @@ each_shape P h NodeKind.Main e = h.1.1.1.0
 each_shape P h (NodeKind.Filled Template.IfElse) e = h.1.1.1.1.0
 each_shape P h (NodeKind.Filled Template.While) e = h.1.1.1.1.1.0
 each_shape P h (NodeKind.Filled Template.Group) e = h.1.1.1.1.1.1.0
-each_shape P h (NodeKind.Filled Template.For) e = h.1.1.1.1.1.1.1.0
-each_shape P h (NodeKind.Filled Template.Get) e = h.1.1.1.1.1.1.1.1.0
-each_shape P h (NodeKind.Filled Template.Put) e = h.1.1.1.1.1.1.1.1.1.0
-each_shape P h (NodeKind.Filled Template.PutSkip) e = h.1.1.1.1.1.1.1.1.1.1.0
-each_shape P h (NodeKind.Filled Template.Call) e = h.1.1.1.1.1.1.1.1.1.1.1.0
-each_shape P h (NodeKind.Filled Template.Return) e = h.1.1.1.1.1.1.1.1.1.1.1.1.0
-each_shape P h (NodeKind.Filled Template.Comment) e = h.1.1.1.1.1.1.1.1.1.1.1.1.1.0
-each_shape P h (NodeKind.Filled Template.Fixed) e = h.1.1.1.1.1.1.1.1.1.1.1.1.1.1.0
-each_shape P h (NodeKind.Filled Template.Bit) e = h.1.1.1.1.1.1.1.1.1.1.1.1.1.1.1.0
-each_shape P h (NodeKind.Filled Template.Char) e = h.1.1.1.1.1.1.1.1.1.1.1.1.1.1.1.1.0
-each_shape P h NodeKind.Assign e = h.1.1.1.1.1.1.1.1.1.1.1.1.1.1.1.1.1.0
-each_shape P h (NodeKind.Filled Template.ProcP) e = h.1.1.1.1.1.1.1.1.1.1.1.1.1.1.1.1.1.1.0
-each_shape P h (NodeKind.Filled Template.Proc) e = h.1.1.1.1.1.1.1.1.1.1.1.1.1.1.1.1.1.1.1.0
+each_shape P h (NodeKind.Filled Template.Until) e = h.1.1.1.1.1.1.1.0
+each_shape P h (NodeKind.Filled Template.For) e = h.1.1.1.1.1.1.1.1.0
+each_shape P h (NodeKind.Filled Template.Get) e = h.1.1.1.1.1.1.1.1.1.0
+each_shape P h (NodeKind.Filled Template.Put) e = h.1.1.1.1.1.1.1.1.1.1.0
+each_shape P h (NodeKind.Filled Template.PutSkip) e = h.1.1.1.1.1.1.1.1.1.1.1.0
+each_shape P h (NodeKind.Filled Template.Call) e = h.1.1.1.1.1.1.1.1.1.1.1.1.0
+each_shape P h (NodeKind.Filled Template.Return) e = h.1.1.1.1.1.1.1.1.1.1.1.1.1.0
+each_shape P h (NodeKind.Filled Template.Comment) e = h.1.1.1.1.1.1.1.1.1.1.1.1.1.1.0
+each_shape P h (NodeKind.Filled Template.Fixed) e = h.1.1.1.1.1.1.1.1.1.1.1.1.1.1.1.0
+each_shape P h (NodeKind.Filled Template.Bit) e = h.1.1.1.1.1.1.1.1.1.1.1.1.1.1.1.1.0
+each_shape P h (NodeKind.Filled Template.Char) e = h.1.1.1.1.1.1.1.1.1.1.1.1.1.1.1.1.1.0
+each_shape P h NodeKind.Assign e = h.1.1.1.1.1.1.1.1.1.1.1.1.1.1.1.1.1.1.0
+each_shape P h (NodeKind.Filled Template.ProcP) e = h.1.1.1.1.1.1.1.1.1.1.1.1.1.1.1.1.1.1.1.0
+each_shape P h (NodeKind.Filled Template.Proc) e = h.1.1.1.1.1.1.1.1.1.1.1.1.1.1.1.1.1.1.1.1.0
 each_shape P h (NodeKind.Filled Template.If) e = absurd (false≢true (ap is_if e))
   where
     is_if : NodeKind → Bool
@@ -71,7 +72,7 @@ each_shape P h (NodeKind.Filled Template.If) e = absurd (false≢true (ap is_if 
     is_if kind = false
 
 pub shapes_are : OfEach (λ kind. shape kind ≡ kind) shapes
-shapes_are = (refl, (refl, (refl, (refl, (refl, (refl, (refl, (refl, (refl, (refl, (refl, (refl, (refl, (refl, (refl, (refl, (refl, (refl, (refl, (refl, tt))))))))))))))))))))
+shapes_are = (refl, (refl, (refl, (refl, (refl, (refl, (refl, (refl, (refl, (refl, (refl, (refl, (refl, (refl, (refl, (refl, (refl, (refl, (refl, (refl, (refl, tt)))))))))))))))))))))
 
 -- a line whose segments can't begin with its first byte isn't read as them
 not_begun : (byte : ℕ) (rest : List ℕ) (segments : List PlainSegment) → may_begin byte segments ≡ false → AreNoSegments segments (byte ∷ rest)

@@ -154,6 +154,7 @@ last_sayings level (NodeKind.Filled Template.Proc) = (refl, tt)
 last_sayings level (NodeKind.Filled Template.ProcP) = (refl, tt)
 last_sayings level (NodeKind.Filled Template.While) = (refl, tt)
 last_sayings level (NodeKind.Filled Template.For) = (refl, tt)
+last_sayings level (NodeKind.Filled Template.Until) = (refl, tt)
 last_sayings level (NodeKind.Filled Template.Group) = (refl, tt)
 last_sayings level (NodeKind.Filled template) = tt
 last_sayings level kind = tt

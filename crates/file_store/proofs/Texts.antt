@@ -110,6 +110,7 @@ saying_begun laws (Saying.head kind parts) h = go kind parts h.1
     go (NodeKind.Filled Template.IfElse) parts h = not_blank 73 refl
     go (NodeKind.Filled Template.While) parts h = not_blank 68 refl
     go (NodeKind.Filled Template.For) parts h = not_blank 68 refl
+    go (NodeKind.Filled Template.Until) parts h = not_blank 68 refl
     go (NodeKind.Filled Template.Group) parts h = not_blank 68 refl
     go (NodeKind.Filled Template.Get) parts h = not_blank 71 refl
     go (NodeKind.Filled Template.Put) parts h = not_blank 80 refl

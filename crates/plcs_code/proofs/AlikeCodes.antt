@@ -13,7 +13,7 @@ use Rattle.template_tree.specs.Programs.PlainTree.{Forest, Label}
 use Rattle.plcs_code.specs.declared.heading_entry.HeadingEntry.{HeadingEntry}
 use Rattle.plcs_code.specs.declared.node_span.NodeSpan.{NodeSpan}
 use Rattle.plcs_code.specs.Gen.{Gen, PlainCode, addresses_in, code_with, codes_joined, heading_by_name, headings_by_name, node_address, node_codes, node_lengths, node_spans, span_by_slot}
-use Rattle.plcs_code.specs.Pieces.{first_length, other_lengths, own_jumps, own_pieces}
+use Rattle.plcs_code.specs.Pieces.{count_pieces, first_length, other_lengths, own_jumps, own_pieces}
 use Rattle.plcs_code.specs.PlainInstr.{PlainInstr}
 use Rattle.plcs_code.specs.ProgramCode.{CodeAsksItems, CodeIgnoresElision, CodeIgnoresRoom}
 use Rattle.plcs_code.proofs.Contents.{content, content_roomless, content_turned}
@@ -24,13 +24,13 @@ use Rattle.plcs_code.proofs.Contents.{content, content_roomless, content_turned}
 abbrev code_by : MarkMap → List Declared → Label → List (List PlainInstr) → List PlainInstr
 code_by marks items label codes =
     code_with (own_pieces marks items label)
-    (own_jumps marks label (length (own_pieces marks items label).before) (first_length (map length codes)) (other_lengths (map length codes))) codes
+    (own_jumps marks label (count_pieces (own_pieces marks items label)) (first_length (map length codes)) (other_lengths (map length codes))) codes
 
 -- the length of the code of a node with these items, around codes of these lengths
 abbrev length_by : MarkMap → List Declared → Label → (lengths : List ℕ) → ℕ
 length_by marks items label lengths =
     let own = own_pieces marks items label in
-    let around = own_jumps marks label (length own.before) 0 0 in
+    let around = own_jumps marks label (count_pieces own) 0 0 in
     length
     (own.before
     ++ (option_to_list around.ahead ++ (option_to_list around.between ++ (own.behind ++ option_to_list around.back))))
@@ -40,7 +40,7 @@ length_by marks items label lengths =
 abbrev spans_by : MarkMap → List Declared → Label → (start gap : ℕ) → (lengths : List ℕ) → (inner rest : ℕ → ℕ → List NodeSpan) → List NodeSpan
 spans_by marks items label start gap lengths inner rest =
     let own = own_pieces marks items label in
-    let around = own_jumps marks label (length own.before) (first_length lengths) (other_lengths lengths) in
+    let around = own_jumps marks label (count_pieces own) (first_length lengths) (other_lengths lengths) in
     let whole = length_by marks items label lengths in
     record { slot = record { 0 = label.slot }; kind = label.kind; start = start; length = whole }
     ∷ (inner (start + length own.before + length (option_to_list around.ahead)) (length (option_to_list around.between))

@@ -20,7 +20,7 @@ use Rattle.template_tree.specs.Programs.Part.{part_at}
 use Rattle.plcs_code.specs.ExprCode.{counter_name}
 use Rattle.plcs_code.specs.Gen.{code_around, codes_around, codes_joined, has_code, length_around, node_codes, node_lengths, node_spans, span_by_slot}
 use Rattle.plcs_code.specs.Landing.{BodiesBegin, SecondBodiesBegin, length_before}
-use Rattle.plcs_code.specs.Pieces.{first_length, kind_jumps, other_lengths, pieces, suspension}
+use Rattle.plcs_code.specs.Pieces.{count_pieces, first_length, kind_jumps, other_lengths, pieces, suspension}
 use Rattle.plcs_code.specs.PlainInstr.{PlainInstr}
 use Rattle.plcs_code.proofs.BegunCode.{FirstBegins, begin_read, node_begins, passed_read, stands_read}
 use Rattle.plcs_code.proofs.FoundNodes.{around_nothing, inner_jumps, inner_stands, inner_start, node_at_site, node_long, own_node}
@@ -145,7 +145,7 @@ second_bodies_begin marks items program slot found first within rest behind is e
     let at : ℕ = inner_start marks items there.0 label found.inner in
     let between : List PlainInstr = option_to_list (inner_jumps marks items label found.inner).between in
     let one : length between ≡ 1 =
-    ap (λ (k : NodeKind). length (option_to_list (kind_jumps label.slot (counter_name (part_at label.parts 0)) (is_some (suspension marks label.slot label.parts)) (is_some (suspension marks label.slot (take 1 label.parts))) (length (pieces marks items label).before) (first_length (node_lengths marks items found.inner)) (other_lengths (node_lengths marks items found.inner)) k).between)) kind in
+    ap (λ (k : NodeKind). length (option_to_list (kind_jumps label.slot (counter_name (part_at label.parts 0)) (is_some (suspension marks label.slot label.parts)) (is_some (suspension marks label.slot (take 1 label.parts))) (count_pieces (pieces marks items label)) (first_length (node_lengths marks items found.inner)) (other_lengths (node_lengths marks items found.inner)) k).between)) kind in
     let code = code_around marks items first (node_codes marks items within) in
     let codes = node_codes marks items rest in
     let told : StandsAt instrs at (codes_around between (code ∷ codes)) =

@@ -19,7 +19,7 @@ use Rattle.template_tree.specs.Programs.Program.{AreNodes, AreParts, Fill, parts
 use Rattle.template_tree.specs.Checks.ProgramMaps.{items_in}
 use Rattle.plcs_code.specs.ExprCode.{counter_name}
 use Rattle.plcs_code.specs.Gen.{code_around, codes_around, codes_joined, node_codes, node_lengths}
-use Rattle.plcs_code.specs.Pieces.{first_length, get_piece, jumps, kind_jumps, kind_pieces, other_lengths, pieces, suspension, template_jumps, template_pieces}
+use Rattle.plcs_code.specs.Pieces.{count_pieces, first_length, get_piece, jumps, kind_jumps, kind_pieces, other_lengths, pieces, suspension, template_jumps, template_pieces}
 use Rattle.plcs_code.specs.PlainInstr.{PlainInstr}
 use Rattle.plcs_code.proofs.EndedSteps.{IsTargetList, TargetPart, empty_part, get_parts, listed_part}
 use Rattle.plcs_code.proofs.FoundNodes.{inner_jumps, inner_stands, inner_start}
@@ -62,6 +62,7 @@ template_begins marks label items one Template.Put are begins stays = (_, refl)
 template_begins marks label items one Template.PutSkip are begins stays = (_, refl)
 template_begins marks label items one Template.Call are begins stays = (_, refl)
 template_begins marks label items one Template.Return are begins stays = (_, refl)
+template_begins marks label items one Template.Until are begins stays = absurd (false≢true (sym stays))
 template_begins marks label items one Template.Group are begins stays = absurd (false≢true (sym stays))
 template_begins marks label items one Template.Comment are begins stays = absurd (false≢true (sym stays))
 template_begins marks label items one other are begins stays = absurd (false≢true begins)
@@ -94,21 +95,22 @@ record PassesOn (own ahead : List PlainInstr) : Type 0 where
   before : own ≡ []
   jump : ahead ≡ []
 
-template_passes : (slot : ℕ) (all one : Option PlainInstr) (parts : List (Option PlainPhrase)) (items : List Declared) (counter : Option (List ℕ)) (before first others : ℕ) (template : Template)
+template_passes : (slot : ℕ) (all one : Option PlainInstr) (parts : List (Option PlainPhrase)) (items : List Declared) (counter : Option (List ℕ)) (own first others : ℕ) (template : Template)
     → passes_in (NodeKind.Filled template) ≡ true
     → PassesOn (template_pieces slot all one parts items template).before
-    (option_to_list (template_jumps slot counter (is_some all) (is_some one) before first others template).ahead)
-template_passes slot all one parts items counter before first others Template.Group is = record { before = refl; jump = refl }
-template_passes slot all one parts items counter before first others Template.Comment is = record { before = refl; jump = refl }
-template_passes slot all one parts items counter before first others other is = absurd (false≢true is)
+    (option_to_list (template_jumps slot counter (is_some all) (is_some one) own first others template).ahead)
+template_passes slot all one parts items counter own first others Template.Until is = record { before = refl; jump = refl }
+template_passes slot all one parts items counter own first others Template.Group is = record { before = refl; jump = refl }
+template_passes slot all one parts items counter own first others Template.Comment is = record { before = refl; jump = refl }
+template_passes slot all one parts items counter own first others other is = absurd (false≢true is)
 
-kind_passes : (slot : ℕ) (all one : Option PlainInstr) (parts : List (Option PlainPhrase)) (items : List Declared) (counter : Option (List ℕ)) (before first others : ℕ) (kind : NodeKind)
+kind_passes : (slot : ℕ) (all one : Option PlainInstr) (parts : List (Option PlainPhrase)) (items : List Declared) (counter : Option (List ℕ)) (own first others : ℕ) (kind : NodeKind)
     → passes_in kind ≡ true
     → PassesOn (kind_pieces slot all one parts items kind).before
-    (option_to_list (kind_jumps slot counter (is_some all) (is_some one) before first others kind).ahead)
-kind_passes slot all one parts items counter before first others (NodeKind.Filled template) is =
-    template_passes slot all one parts items counter before first others template is
-kind_passes slot all one parts items counter before first others other is = absurd (false≢true is)
+    (option_to_list (kind_jumps slot counter (is_some all) (is_some one) own first others kind).ahead)
+kind_passes slot all one parts items counter own first others (NodeKind.Filled template) is =
+    template_passes slot all one parts items counter own first others template is
+kind_passes slot all one parts items counter own first others other is = absurd (false≢true is)
 
 -- what stands inside it begins where it does
 passed_start : (marks : MarkMap) (items : ItemMap) (start : ℕ) (label : Label) (inner : Forest) → passes_in label.kind ≡ true
@@ -116,7 +118,7 @@ passed_start : (marks : MarkMap) (items : ItemMap) (start : ℕ) (label : Label)
 passed_start marks items start label inner is =
     let on : PassesOn (pieces marks items label).before (option_to_list (inner_jumps marks items label inner).ahead) =
     kind_passes label.slot (suspension marks label.slot label.parts) (suspension marks label.slot (take 1 label.parts)) label.parts
-    (items_in items label.slot) (counter_name (part_at label.parts 0)) (length (pieces marks items label).before)
+    (items_in items label.slot) (counter_name (part_at label.parts 0)) (count_pieces (pieces marks items label))
     (first_length (node_lengths marks items inner)) (other_lengths (node_lengths marks items inner)) label.kind is in
     let a : length (pieces marks items label).before ≡ 0 = ap length on.before in
     let b : length (option_to_list (inner_jumps marks items label inner).ahead) ≡ 0 = ap length on.jump in
@@ -142,6 +144,7 @@ filled_starts sort sections items begins (own, others, same, are, more) =
 
 template_starts : (template : Template) (items : List Sort) → passes_in (NodeKind.Filled template) ≡ true
     → Fill (row_of (NodeKind.Filled template)).sections items → FirstBegins items
+template_starts Template.Until items e fill = filled_starts Sort.Statement [] items refl fill
 template_starts Template.Group items e fill = filled_starts Sort.Statement [] items refl fill
 template_starts Template.Comment items e fill = filled_starts Sort.Statement [] items refl fill
 template_starts other items e fill = absurd (false≢true e)

@@ -13,7 +13,7 @@ use Rattle.template_tree.specs.Programs.Part.{part_at}
 use Rattle.template_tree.specs.Programs.PlainTree.{Forest, Label}
 use Rattle.plcs_code.specs.ExprCode.{counter_name}
 use Rattle.plcs_code.specs.Gen.{code_around, code_with, codes_around, codes_joined, length_around, node_codes, node_lengths, own_instrs, own_length}
-use Rattle.plcs_code.specs.Pieces.{CodeJumps, CodePieces, first_length, jump_unless, jumps, kind_jumps, other_lengths, own_jumps, pieces, suspension, template_jumps}
+use Rattle.plcs_code.specs.Pieces.{CodeJumps, CodePieces, count_pieces, first_length, jump_unless, jumps, kind_jumps, other_lengths, own_jumps, pieces, suspension, template_jumps}
 use Rattle.plcs_code.specs.PlainInstr.{PlainInstr}
 
 -- ---- the jumps of a node
@@ -55,6 +55,7 @@ template_many slot counter all one a m n b k l Template.For = record {
   between = refl;
   back = unless_length one _ _ (counter_length _ _ counter);
 }
+template_many slot counter all one a m n b k l Template.Until = record { ahead = refl; between = refl; back = unless_length one _ _ refl }
 template_many slot counter all one a m n b k l Template.Group = same_many _
 template_many slot counter all one a m n b k l Template.Get = same_many _
 template_many slot counter all one a m n b k l Template.Put = same_many _
@@ -84,8 +85,8 @@ own_jumps_many marks label a m n b k l =
 pub jumps_many : (marks : MarkMap) (items : ItemMap) (label : Label) (lengths others : List ℕ)
     → AsMany (jumps marks items label lengths) (jumps marks items label others)
 jumps_many marks items label lengths others =
-    let before = length (pieces marks items label).before in
-    own_jumps_many marks label before (first_length lengths) (other_lengths lengths) before (first_length others) (other_lengths others)
+    let own = count_pieces (pieces marks items label) in
+    own_jumps_many marks label own (first_length lengths) (other_lengths lengths) own (first_length others) (other_lengths others)
 
 -- ---- a node's own code
 

@@ -11,7 +11,7 @@ use Rattle.template_tree.specs.Programs.PlainTree.{Forest, Label, PlainNode, for
 use Rattle.template_tree.specs.Checks.ProgramMaps.{items_in}
 use Rattle.plcs_code.specs.declared.lengths.NodeLength.{NodeLength}
 use Rattle.plcs_code.specs.Gen.{length_around, node_lengths, own_length}
-use Rattle.plcs_code.specs.Pieces.{CodeJumps, CodePieces, first_length, jumps, other_lengths, own_jumps, own_pieces, pieces}
+use Rattle.plcs_code.specs.Pieces.{CodeJumps, CodePieces, count_pieces, first_length, jumps, other_lengths, own_jumps, own_pieces, pieces}
 use Rattle.plcs_code.specs.PlainInstr.{PlainInstr}
 use Rattle.plcs_code.specs.Private.LaidCode.{length_of, listed_lengths}
 use Rattle.plcs_code.proofs.CodeLengths.{AsMany, own_instrs_length, own_jumps_many}
@@ -72,14 +72,16 @@ module _ (marks : MarkMap) (items : ItemMap) (all : List PlainNode) (k next : �
       ∙ ap (λ f. listed_lengths marks items f ++ old) (sym (nodes_left all k next node there is))
 
 -- the length of a node is put before those of what stands inside it
-pub listed_more : (marks : MarkMap) (items : ItemMap) (label : Label) (inner : Forest) (whole first others : ℕ) (old before after : List NodeLength)
-    → whole ≡ length_around marks items label (node_lengths marks items inner) → first ≡ first_length (node_lengths marks items inner)
+pub listed_more : (marks : MarkMap) (items : ItemMap) (label : Label) (inner : Forest) (whole own first others : ℕ) (old before after : List NodeLength)
+    → whole ≡ length_around marks items label (node_lengths marks items inner) → own ≡ count_pieces (pieces marks items label)
+    → first ≡ first_length (node_lengths marks items inner)
     → others ≡ other_lengths (node_lengths marks items inner) → before ≡ listed_lengths marks items inner ++ old
-    → after ≡ record { whole = whole; first = first; others = others } ∷ before
+    → after ≡ record { whole = whole; pieces = own; first = first; others = others } ∷ before
     → after ≡ listed_lengths marks items (Forest.cons label inner Forest.nil) ++ old
-listed_more marks items label inner whole first others old before after a b c d e =
-    let own : NodeLength = record { whole = whole; first = first; others = others } in
-    let is : own ≡ length_of marks items label (node_lengths marks items inner) = λ i. record { whole = a i; first = b i; others = c i } in
+listed_more marks items label inner whole own first others old before after a p b c d e =
+    let node : NodeLength = record { whole = whole; pieces = own; first = first; others = others } in
+    let is : node ≡ length_of marks items label (node_lengths marks items inner) =
+    λ i. record { whole = a i; pieces = p i; first = b i; others = c i } in
     e
     ∙ ap (λ (n : NodeLength). n ∷ before) is
     ∙ ap (λ (ls : List NodeLength). length_of marks items label (node_lengths marks items inner) ∷ ls) d
@@ -87,13 +89,24 @@ listed_more marks items label inner whole first others old before after a b c d 
 
 -- ---- a node's own code
 
+-- the pieces of a node are as long, by its items alone
+pub counted_pieces : (marks : MarkMap) (map : ItemMap) (label : Label) (items : List Declared)
+    → own_pieces marks items label ≡ pieces marks map label
+    → length ((own_pieces marks items label).before ++ (own_pieces marks [] label).behind) ≡ count_pieces (pieces marks map label)
+counted_pieces marks map label items has =
+    let before = (own_pieces marks items label).before in
+    let behind = (own_pieces marks [] label).behind in
+    let first : length before ≡ length (pieces marks map label).before = ap (λ (own : CodePieces). length own.before) has in
+    let last : length behind ≡ length (pieces marks map label).behind = ap (λ (code : List PlainInstr). length code) (own_behind marks [] (items_in map label.slot) label) in
+    omega (arith, first, last, length-append before behind)
+
 -- the own code of a node is as long, by its items alone and whatever its jumps go over
 pub counted_own : (marks : MarkMap) (map : ItemMap) (label : Label) (items : List Declared) (around : CodeJumps)
     → own_pieces marks items label ≡ pieces marks map label → around ≡ own_jumps marks label 0 0 0
     → length
     ((own_pieces marks items label).before
-    ++ (option_to_list around.ahead
-    ++ (option_to_list around.between ++ ((own_pieces marks [] label).behind ++ option_to_list around.back))))
+    ++ ((own_pieces marks [] label).behind
+    ++ (option_to_list around.ahead ++ (option_to_list around.between ++ option_to_list around.back))))
     ≡ own_length marks map label
 counted_own marks map label items around has is =
     let before = (own_pieces marks items label).before in
@@ -103,11 +116,11 @@ counted_own marks map label items around has is =
     let back = option_to_list around.back in
     let many : AsMany around (jumps marks map label []) =
     subst (λ (j : CodeJumps). AsMany j (jumps marks map label [])) (sym is)
-    (own_jumps_many marks label 0 0 0 (length (pieces marks map label).before) 0 0) in
+    (own_jumps_many marks label 0 0 0 (count_pieces (pieces marks map label)) 0 0) in
     let e = many.ahead in
     let f = many.between in
     let g = many.back in
     let first : length before ≡ length (pieces marks map label).before = ap (λ (own : CodePieces). length own.before) has in
     let last : length behind ≡ length (pieces marks map label).behind = ap (λ (code : List PlainInstr). length code) (own_behind marks [] (items_in map label.slot) label) in
     omega
-    (arith, e, f, g, first, last, own_instrs_length marks map label [], length-append before (ahead ++ (between ++ (behind ++ back))), length-append ahead (between ++ (behind ++ back)), length-append between (behind ++ back), length-append behind back)
+    (arith, e, f, g, first, last, own_instrs_length marks map label [], length-append before (behind ++ (ahead ++ (between ++ back))), length-append behind (ahead ++ (between ++ back)), length-append ahead (between ++ back), length-append between back)

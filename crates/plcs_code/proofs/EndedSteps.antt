@@ -1,5 +1,5 @@
--- Where steps end in a node's own code: at the places that a run has in the node, but for the start of a group or a
--- comment, which is that of its first item, and for where a call comes back. A GET has a place for each variable of its
+-- Where steps end in a node's own code: at the places that a run has in the node, but for the start of what passes it on,
+-- which is that of its first item, and for where a call comes back. A GET has a place for each variable of its
 -- list, of which there is one at least.
 use Rattle.std.proofs.Common.{◌≡◌, ℕ, zero, suc, ◌+◌, ◌<◌, ◌≤◌, Bool, true, false, ◌⊎◌, inl, inr, List, [], ◌∷◌, ◌++◌, length, take, Option, Some, None, refl, sym, subst, arith}
 use Rattle.std.specs.Prelude.{◌&&◌, ◌||◌, ◌==◌, IsTrue, flat_map, if◌then◌else◌, nat_lt, not, unwrap_or}
@@ -246,6 +246,14 @@ loop_place q slot all one code stop first are (inr (inl h)) =
 loop_place q slot all one code stop first are (inr (inr h)) =
     let there = piece_ends q slot 1 one [] first tt h in (there.0, is_one (q.point == 0) q.point there.1)
 
+-- a place of a loop that tests at its end: its start, which is that of its first item, or the test
+tested_place : (q : PlainPlace) (slot : ℕ) (stop : Option PlainInstr) (code : List PlainInstr) → IsStop stop → AreActions code
+    → IsPoint slot 0 q ⊎ (⊥ ⊎ EndsIn q (piece_at slot 1 stop code)) → (slot ≡ q.slot) × IsTrue ((q.point == 0) || (q.point == 1))
+tested_place q slot stop code is are (inl h) = (h.0, is_start (q.point == 1) q.point h.1)
+tested_place q slot stop code is are (inr (inl h)) = absurd h
+tested_place q slot stop code is are (inr (inr h)) =
+    let there = piece_ends q slot 1 stop code is are h in (there.0, is_one (q.point == 0) q.point there.1)
+
 -- the cells of a procedure
 cells_code : (items : List Declared) (parameters : List (List ℕ))
     → AreActions (parameters_instrs items [] parameters ++ flat_map (cell_instr parameters) items)
@@ -382,6 +390,14 @@ begin_loop q slot all one code same has =
       | inr b ↦ inr (inr (inl (same, b)))
     ]
 
+begin_tested : (q : PlainPlace) (slot : ℕ) (stop : Option PlainInstr) (code : List PlainInstr) → slot ≡ q.slot
+    → IsTrue ((q.point == 0) || (q.point == 1)) → IsPoint slot 0 q ⊎ (⊥ ⊎ EndsIn q (piece_at slot 1 stop code))
+begin_tested q slot stop code same has =
+    elim (from_two q.point has) as (λ _. IsPoint slot 0 q ⊎ (⊥ ⊎ EndsIn q (piece_at slot 1 stop code))) [
+      | inl a ↦ inl (same, a)
+      | inr b ↦ inr (inr (inl (same, b)))
+    ]
+
 -- ---- by the table
 
 template_place : (marks : MarkMap) (label : Label) (items : List Declared) (template : Template) (q : PlainPlace)
@@ -404,6 +420,9 @@ template_place marks label items Template.For q are h =
     loop_place q label.slot (suspension marks label.slot label.parts) (suspension marks label.slot (take 1 label.parts))
     (part_instrs (part_at label.parts 1) ++ (part_instrs (part_at label.parts 2) ++ part_instrs (part_at label.parts 3)))
     (suspension_stops marks label.slot label.parts) (suspension_stops marks label.slot (take 1 label.parts)) (loop_code label.parts) h
+template_place marks label items Template.Until q are h =
+    tested_place q label.slot (suspension marks label.slot (take 1 label.parts)) (part_instrs (part_at label.parts 0))
+    (suspension_stops marks label.slot (take 1 label.parts)) (part_actions (part_at label.parts 0)) h
 template_place marks label items Template.Group q are h = passed_place q label.slot h
 template_place marks label items Template.Get q are h =
     get_place marks label.slot label.parts q (get_parts label.parts are) h
@@ -455,6 +474,8 @@ template_has marks label items Template.While q are h = inr (inl (begin_piece q 
 template_has marks label items Template.For q are h =
     begin_loop q label.slot (suspension marks label.slot label.parts) (suspension marks label.slot (take 1 label.parts))
     (part_instrs (part_at label.parts 1) ++ (part_instrs (part_at label.parts 2) ++ part_instrs (part_at label.parts 3))) h.0 h.1
+template_has marks label items Template.Until q are h =
+    begin_tested q label.slot (suspension marks label.slot (take 1 label.parts)) (part_instrs (part_at label.parts 0)) h.0 h.1
 template_has marks label items Template.Group q are h = inl (h.0, from_start q.point h.1)
 template_has marks label items Template.Get q are h =
     inr (inl (get_begin marks label.slot label.parts q (get_parts label.parts are) h))

@@ -1,5 +1,5 @@
--- The definitions at work: the code of an expression, of a call of a procedure, and of a While before and after the PUT
--- in it grew; and where a second body stands, and which of two headings of a name counts.
+-- The definitions at work: the code of an expression, of a call of a procedure, of a While before and after the PUT in
+-- it grew, and of an Until; and where a second body stands, and which of two headings of a name counts.
 use Rattle.std.specs.Prelude.{◌≡◌, refl, ℕ, pos, negsuc, true, false, List, [], ◌∷◌, codes, Option, Some, None}
 use Rattle.std.specs.FinMap.{empty, from_entries, get, gets}
 use Rattle.plcs_base.specs.Mark.{MarkMap}
@@ -212,6 +212,40 @@ for_one =
 -- its next iteration stands behind its heading and its body
 iteration_stands : get (Gen no_marks no_items for_one).addresses (place_of (place_at 2 1)) ≡ Some 8
 iteration_stands = simp (gets, places_total)
+
+-- an Until with this condition, around a PUT of 1
+abbrev until_with : Option PlainPhrase → Forest
+until_with condition =
+    main_with
+    (Forest.cons (filled 2 Template.Until (condition ∷ []))
+    (leaf (filled 4 Template.Put (Some (PlainPhrase.expression_list (single one)) ∷ [])) Forest.nil)
+    Forest.nil)
+    no_procedure
+
+-- it tests behind its body, and goes back to where that begins
+until_is_laid :
+    (Gen no_marks no_items (until_with (Some (PlainPhrase.condition (PlainExpr.bit true))))).instrs
+    ≡ PlainInstr.place (place_at 4 0) ∷ PlainInstr.push_number (pos 1) ∷ PlainInstr.put 1
+    ∷ PlainInstr.place (place_at 2 1) ∷ PlainInstr.push_bit true ∷ PlainInstr.jump_false (negsuc 5)
+    ∷ PlainInstr.place (place_at 0 1) ∷ PlainInstr.leave ∷ []
+until_is_laid = simp gets
+
+-- without a condition a run stops in place of the test
+until_is_stopped :
+    (Gen no_marks no_items (until_with None)).instrs
+    ≡ PlainInstr.place (place_at 4 0) ∷ PlainInstr.push_number (pos 1) ∷ PlainInstr.put 1
+    ∷ PlainInstr.place (place_at 2 1) ∷ PlainInstr.suspend_placeholder
+    ∷ PlainInstr.place (place_at 0 1) ∷ PlainInstr.leave ∷ []
+until_is_stopped = simp gets
+
+-- its start is that of its body, and its test is a step of its own
+until_starts :
+    get (Gen no_marks no_items (until_with (Some (PlainPhrase.condition (PlainExpr.bit true))))).addresses (place_of (place_at 2 0)) ≡ Some 0
+until_starts = simp (gets, places_total)
+
+test_stands :
+    get (Gen no_marks no_items (until_with (Some (PlainPhrase.condition (PlainExpr.bit true))))).addresses (place_of (place_at 2 1)) ≡ Some 3
+test_stands = simp (gets, places_total)
 
 -- a call comes back behind its code
 call_comes_back : get (Gen no_marks items_of_p call_p).addresses (place_of (place_at 2 1)) ≡ Some 4

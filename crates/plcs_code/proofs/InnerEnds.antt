@@ -17,7 +17,7 @@ use Rattle.template_tree.specs.Programs.Program.{sort_of}
 use Rattle.plcs_code.specs.ExprCode.{part_instrs}
 use Rattle.plcs_code.specs.Gen.{code_with, codes_around, has_code}
 use Rattle.plcs_code.specs.Landing.{Lands}
-use Rattle.plcs_code.specs.Pieces.{CodeJumps, CodePieces, first_length, first_piece, kind_jumps, kind_pieces, other_lengths, template_jumps, template_pieces, unless_stopped}
+use Rattle.plcs_code.specs.Pieces.{CodeJumps, CodePieces, count_pieces, first_length, first_piece, kind_jumps, kind_pieces, other_lengths, template_jumps, template_pieces, unless_stopped}
 use Rattle.plcs_code.specs.PlainInstr.{PlainInstr}
 use Rattle.plcs_code.proofs.BegunCode.{stands_read}
 use Rattle.plcs_code.proofs.CodeLengths.{around_length}
@@ -111,17 +111,17 @@ step_end instrs start own around codes slot more is stands =
 while_end : (instrs : List PlainInstr) (start slot : ℕ) (all : Option PlainInstr) (parts : List (Option PlainPhrase)) (around : CodeJumps) (codes : List (List PlainInstr)) (after : PlainPlace)
     → around.between ≡ None
     → around.back
-    ≡ Some (PlainInstr.jump (neg_ℤ (pos (length (first_piece slot all parts) + length (option_to_list around.ahead)
+    ≡ Some (PlainInstr.jump (neg_ℤ (pos (length (first_piece slot 0 all parts) + 0 + length (option_to_list around.ahead)
     + (first_length (map length codes) + other_lengths (map length codes)) + 1))))
-    → StandsAt instrs start (code_with (let p : CodePieces = record { before = first_piece slot all parts; behind = [] } in p) around codes)
-    → Lands instrs (start + length (code_with (let p : CodePieces = record { before = first_piece slot all parts; behind = [] } in p) around codes)) after
-    → Lands instrs (inside_end instrs start (let p : CodePieces = record { before = first_piece slot all parts; behind = [] } in p) around codes) (place_at slot 0)
+    → StandsAt instrs start (code_with (let p : CodePieces = record { before = first_piece slot 0 all parts; behind = [] } in p) around codes)
+    → Lands instrs (start + length (code_with (let p : CodePieces = record { before = first_piece slot 0 all parts; behind = [] } in p) around codes)) after
+    → Lands instrs (inside_end instrs start (let p : CodePieces = record { before = first_piece slot 0 all parts; behind = [] } in p) around codes) (place_at slot 0)
 while_end instrs start slot all parts around codes after none back stands on =
-    let own : CodePieces = record { before = first_piece slot all parts; behind = [] } in
+    let own : CodePieces = record { before = first_piece slot 0 all parts; behind = [] } in
     let end : ℕ = inside_end instrs start own around codes in
     let first = first_length (map length codes) in
     let others = other_lengths (map length codes) in
-    let n : ℕ = length (first_piece slot all parts) + length (option_to_list around.ahead) + (first + others) + 1 in
+    let n : ℕ = length (first_piece slot 0 all parts) + 0 + length (option_to_list around.ahead) + (first + others) + 1 in
     let within = codes_around (option_to_list around.between) codes in
     let inner : length within ≡ length (option_to_list around.between) + sum (map length codes) = around_length (option_to_list around.between) codes in
     let sums : sum (map length codes) ≡ first + others = lengths_split (map length codes) in
@@ -147,7 +147,7 @@ module _ (instrs : List PlainInstr) (start slot : ℕ) (all one : Option PlainIn
 
   abbrev around_of : Template → CodeJumps
   around_of template =
-      template_jumps slot counter (is_some all) (is_some one) (length (own_of template).before) (first_length (map length codes))
+      template_jumps slot counter (is_some all) (is_some one) (count_pieces (own_of template)) (first_length (map length codes))
       (other_lengths (map length codes)) template
 
   abbrev TemplateEnds : Template → Type 0
@@ -165,6 +165,8 @@ module _ (instrs : List PlainInstr) (start slot : ℕ) (all one : Option PlainIn
       while_end instrs start slot all parts (around_of Template.While) codes after refl refl stands (on refl)
   template_ends Template.For is stands on =
       step_end instrs start (own_of Template.For) (around_of Template.For) codes slot _ refl stands
+  template_ends Template.Until is stands on =
+      step_end instrs start (own_of Template.Until) (around_of Template.Until) codes slot _ refl stands
   template_ends Template.Proc is stands on = step_end instrs start (own_of Template.Proc) (around_of Template.Proc) codes slot _ refl stands
   template_ends Template.ProcP is stands on = step_end instrs start (own_of Template.ProcP) (around_of Template.ProcP) codes slot _ refl stands
   template_ends Template.If is stands on = plain_end instrs start (own_of Template.If) (around_of Template.If) codes after refl (on refl)
@@ -182,7 +184,7 @@ module _ (instrs : List PlainInstr) (start slot : ℕ) (all one : Option PlainIn
 
   abbrev kind_around : NodeKind → CodeJumps
   kind_around kind =
-      kind_jumps slot counter (is_some all) (is_some one) (length (kind_own kind).before) (first_length (map length codes))
+      kind_jumps slot counter (is_some all) (is_some one) (count_pieces (kind_own kind)) (first_length (map length codes))
       (other_lengths (map length codes)) kind
 
   -- at the end of what stands inside a node that has code a run goes on where it does once that is done
@@ -208,14 +210,14 @@ pub first_body_ends : (instrs : List PlainInstr) (start slot : ℕ) (all one : O
     → let codes : List (List PlainInstr) = first ∷ (second ∷ []) in
     let own : CodePieces = template_pieces slot all one parts its Template.IfElse in
     let around : CodeJumps =
-    template_jumps slot counter (is_some all) (is_some one) (length own.before) (first_length (map length codes)) (other_lengths (map length codes)) Template.IfElse in
+    template_jumps slot counter (is_some all) (is_some one) (count_pieces own) (first_length (map length codes)) (other_lengths (map length codes)) Template.IfElse in
     StandsAt instrs start (code_with own around codes) → Lands instrs (start + length (code_with own around codes)) after
     → Lands instrs (inside instrs start own around codes + length first) after
 first_body_ends instrs start slot all one parts its counter first second after stands on =
     let codes : List (List PlainInstr) = first ∷ (second ∷ []) in
     let own : CodePieces = template_pieces slot all one parts its Template.IfElse in
     let around : CodeJumps =
-    template_jumps slot counter (is_some all) (is_some one) (length own.before) (first_length (map length codes)) (other_lengths (map length codes)) Template.IfElse in
+    template_jumps slot counter (is_some all) (is_some one) (count_pieces own) (first_length (map length codes)) (other_lengths (map length codes)) Template.IfElse in
     let others = other_lengths (map length codes) in
     let at : ℕ = inside instrs start own around codes + length first in
     let jump = PlainInstr.jump (pos others) in

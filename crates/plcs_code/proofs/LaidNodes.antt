@@ -13,7 +13,7 @@ use Rattle.template_tree.specs.Checks.ProgramMaps.{items_in}
 use Rattle.plcs_code.specs.declared.lengths.NodeLength.{NodeLength}
 use Rattle.plcs_code.specs.declared.node_span.NodeSpan.{NodeSpan}
 use Rattle.plcs_code.specs.Gen.{code_around, code_with, codes_around, codes_joined, length_around, node_codes, node_lengths, node_spans}
-use Rattle.plcs_code.specs.Pieces.{first_length, jumps, other_lengths, own_pieces, pieces}
+use Rattle.plcs_code.specs.Pieces.{count_pieces, first_length, jumps, other_lengths, own_pieces, pieces}
 use Rattle.plcs_code.specs.PlainInstr.{PlainInstr}
 use Rattle.plcs_code.specs.Private.LaidCode.{PlainLaid, front, jumps_by, length_of, listed_lengths, with_instrs, with_nodes, with_span}
 use Rattle.plcs_code.proofs.CodeLengths.{code_around_length, lengths_told, own_instrs_length}
@@ -196,7 +196,7 @@ module _ (marks : MarkMap) (items : ItemMap) where
 
   -- ---- what is short enough
 
-  -- what stands inside a node is no longer than the node, and nor is what stands before it
+  -- what stands inside a node is no longer than the node, and nor is that together with the node's pieces
   pub inside_shorter : (label : Label) (inner rest : Forest)
       → sum (node_lengths marks items inner) ≤ sum (node_lengths marks items (Forest.cons label inner rest))
   inside_shorter label inner rest =
@@ -205,10 +205,10 @@ module _ (marks : MarkMap) (items : ItemMap) where
       sum_by-cons (λ n. n) (length_around marks items label (node_lengths marks items inner)) (node_lengths marks items rest) in
       omega (arith, total)
 
-  pub before_shorter : (label : Label) (inner rest : Forest)
-      → length (pieces marks items label).before + first_length (node_lengths marks items inner) + other_lengths (node_lengths marks items inner)
+  pub pieces_shorter : (label : Label) (inner rest : Forest)
+      → count_pieces (pieces marks items label) + first_length (node_lengths marks items inner) + other_lengths (node_lengths marks items inner)
       ≤ sum (node_lengths marks items (Forest.cons label inner rest))
-  before_shorter label inner rest =
+  pieces_shorter label inner rest =
       let total : sum (node_lengths marks items (Forest.cons label inner rest))
       ≡ length_around marks items label (node_lengths marks items inner) + sum (node_lengths marks items rest) =
       sum_by-cons (λ n. n) (length_around marks items label (node_lengths marks items inner)) (node_lengths marks items rest) in

@@ -44,6 +44,7 @@ template_behind slot all one parts items others Template.If = refl
 template_behind slot all one parts items others Template.IfElse = refl
 template_behind slot all one parts items others Template.While = refl
 template_behind slot all one parts items others Template.For = refl
+template_behind slot all one parts items others Template.Until = refl
 template_behind slot all one parts items others Template.Group = refl
 template_behind slot all one parts items others Template.Get = refl
 template_behind slot all one parts items others Template.Put = refl

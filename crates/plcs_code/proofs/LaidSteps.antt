@@ -12,11 +12,11 @@ use Rattle.template_tree.specs.Programs.PlainTree.{Forest, Label, PlainNode, for
 use Rattle.plcs_code.specs.declared.lengths.NodeLength.{NodeLength}
 use Rattle.plcs_code.specs.Counts.{Emits, EmitsAtMost}
 use Rattle.plcs_code.specs.Gen.{codes_around, length_around, node_codes, node_lengths}
-use Rattle.plcs_code.specs.Pieces.{own_pieces, pieces}
+use Rattle.plcs_code.specs.Pieces.{own_pieces}
 use Rattle.plcs_code.specs.PlainInstr.{PlainInstr}
 use Rattle.plcs_code.specs.Private.LaidCode.{PlainLaid, front, jumps_by, length_of, listed_lengths, with_instrs, with_nodes, with_span}
 use Rattle.plcs_code.proofs.CountedLengths.{nodes_left}
-use Rattle.plcs_code.proofs.LaidNodes.{before_shorter, lengths_next, node_laid, node_longer, nodes_longer, nodes_next}
+use Rattle.plcs_code.proofs.LaidNodes.{pieces_shorter, lengths_next, node_laid, node_longer, nodes_longer, nodes_next}
 use Rattle.plcs_code.proofs.Laying.{emits_both, emits_break, emits_none, emits_then}
 
 -- ---- counts
@@ -53,11 +53,11 @@ module _ (marks : MarkMap) (items : ItemMap) (label : Label) (inner : Forest) (l
 module _ (marks : MarkMap) (items : ItemMap) (label : Label) (inner : Forest) (length_taken : NodeLength)
     (is : length_taken ≡ length_of marks items label (node_lengths marks items inner)) where
   -- it is short enough
-  pub before_short : (n : ℕ) → sum (node_lengths marks items (Forest.cons label inner Forest.nil)) + 2 ≤ n
-      → length (pieces marks items label).before + length_taken.first + length_taken.others + 2 ≤ n
-  before_short n short =
-      subst (λ (l : NodeLength). length (pieces marks items label).before + l.first + l.others + 2 ≤ n) (sym is)
-      (omega (arith, short, before_shorter marks items label inner Forest.nil))
+  pub pieces_short : (n : ℕ) → sum (node_lengths marks items (Forest.cons label inner Forest.nil)) + 2 ≤ n
+      → length_taken.pieces + length_taken.first + length_taken.others + 2 ≤ n
+  pieces_short n short =
+      subst (λ (l : NodeLength). l.pieces + l.first + l.others + 2 ≤ n) (sym is)
+      (omega (arith, short, pieces_shorter marks items label inner Forest.nil))
 
   module _ (between back : Option PlainInstr) (is_between : between ≡ (jumps_by marks items label length_taken).between)
       (is_back : back ≡ (jumps_by marks items label length_taken).back) where

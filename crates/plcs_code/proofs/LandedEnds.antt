@@ -25,7 +25,7 @@ use Rattle.plcs_code.specs.declared.node_span.NodeSpan.{NodeSpan}
 use Rattle.plcs_code.specs.ExprCode.{counter_name}
 use Rattle.plcs_code.specs.Gen.{code_around, code_with, codes_around, codes_joined, has_code, length_around, node_codes, node_lengths, node_spans, sort_has_code, span_by_slot}
 use Rattle.plcs_code.specs.Landing.{Lands, StatementsGoOn}
-use Rattle.plcs_code.specs.Pieces.{CodeJumps, CodePieces, first_length, jumps, kind_jumps, kind_pieces, other_lengths, pieces, suspension, template_jumps, template_pieces}
+use Rattle.plcs_code.specs.Pieces.{CodeJumps, CodePieces, count_pieces, first_length, jumps, kind_jumps, kind_pieces, other_lengths, pieces, suspension, template_jumps, template_pieces}
 use Rattle.plcs_code.specs.PlainInstr.{PlainInstr}
 use Rattle.plcs_code.proofs.BegunCode.{node_begins, passed_read, stands_read}
 use Rattle.plcs_code.proofs.CodeLengths.{around_length, lengths_told}
@@ -279,7 +279,7 @@ module _ (marks : MarkMap) (items : ItemMap) (instrs : List PlainInstr) where
         let turn : in_turn (row_of label.kind).sections ≡ false = ap (λ (k : NodeKind). in_turn (row_of k).sections) kind in
         let goes : goes_on_behind (sort_of label.kind) ≡ true = ap (λ (k : NodeKind). goes_on_behind (sort_of k)) kind in
         let told : around.between ≡ Some (PlainInstr.jump (pos (other_lengths (map length codes)))) =
-        ap (λ (k : NodeKind). (kind_jumps label.slot counter (is_some all) (is_some stop) (length own.before) (first_length (map length codes)) (other_lengths (map length codes)) k).between) kind in
+        ap (λ (k : NodeKind). (kind_jumps label.slot counter (is_some all) (is_some stop) (count_pieces own) (first_length (map length codes)) (other_lengths (map length codes)) k).between) kind in
         let gap : length (option_to_list around.between) ≡ 1 = ap (λ (o : Option PlainInstr). length (option_to_list o)) told in
         let gap_told : inner_gap marks items label inner ≡ 1 =
         ap (λ (j : CodeJumps). length (option_to_list j.between)) (sym same_jumps) ∙ gap in
@@ -294,14 +294,14 @@ module _ (marks : MarkMap) (items : ItemMap) (instrs : List PlainInstr) where
         (λ (k : NodeKind).
         let own : CodePieces = kind_pieces label.slot all stop label.parts its k in
         let around : CodeJumps =
-        kind_jumps label.slot counter (is_some all) (is_some stop) (length own.before) (first_length (map length codes)) (other_lengths (map length codes)) k in
+        kind_jumps label.slot counter (is_some all) (is_some stop) (count_pieces own) (first_length (map length codes)) (other_lengths (map length codes)) k in
         StandsAt instrs start (code_with own around codes) → Lands instrs (start + length (code_with own around codes)) after
         → Lands instrs (inside instrs start own around codes + length first) after) (sym kind)
         (subst
         (λ (cs : List (List PlainInstr)).
         let own : CodePieces = template_pieces label.slot all stop label.parts its Template.IfElse in
         let around : CodeJumps =
-        template_jumps label.slot counter (is_some all) (is_some stop) (length own.before) (first_length (map length cs)) (other_lengths (map length cs)) Template.IfElse in
+        template_jumps label.slot counter (is_some all) (is_some stop) (count_pieces own) (first_length (map length cs)) (other_lengths (map length cs)) Template.IfElse in
         StandsAt instrs start (code_with own around cs) → Lands instrs (start + length (code_with own around cs)) after
         → Lands instrs (inside instrs start own around cs + length first) after) (sym two)
         (first_body_ends instrs start label.slot all stop label.parts its counter first second after))
@@ -326,8 +326,8 @@ Lone kind = (row_of kind).sections ≡ []
 -- the codes of nodes inside stand together, one behind the other
 abbrev pub Joins : NodeKind → Type 0
 Joins kind =
-    (slot : ℕ) (counter : Option (List ℕ)) (all one : Bool) (before first others : ℕ)
-    → (kind_jumps slot counter all one before first others kind).between ≡ None
+    (slot : ℕ) (counter : Option (List ℕ)) (all one : Bool) (own first others : ℕ)
+    → (kind_jumps slot counter all one own first others kind).between ≡ None
 
 pub record Listed (kind : NodeKind) : Type 0 where
   pub code : has_code kind ≡ true
@@ -338,7 +338,7 @@ pub record Listed (kind : NodeKind) : Type 0 where
 pub none_between : (marks : MarkMap) (items : ItemMap) (label : Label) (lengths : List ℕ) → Joins label.kind → (jumps marks items label lengths).between ≡ None
 none_between marks items label lengths joins =
     joins label.slot (counter_name (part_at label.parts 0)) (is_some (suspension marks label.slot label.parts))
-    (is_some (suspension marks label.slot (take 1 label.parts))) (length (pieces marks items label).before) (first_length lengths) (other_lengths lengths)
+    (is_some (suspension marks label.slot (take 1 label.parts))) (count_pieces (pieces marks items label)) (first_length lengths) (other_lengths lengths)
 
 -- what may stand inside nodes of the kind: nothing, lists, one statement, or two
 abbrev pub Form : NodeKind → Type 0
@@ -347,12 +347,13 @@ Form kind = Lone kind ⊎ (Listed kind ⊎ ((kind ≡ NodeKind.Filled Template.I
 template_form : (template : Template) → Form (NodeKind.Filled template)
 template_form Template.If = inr (inr (inl refl))
 template_form Template.IfElse = inr (inr (inr refl))
-template_form Template.While = inr (inl record { code = refl; turn = refl; bodies = statements_are; joins = λ slot counter all one before first others. refl })
-template_form Template.For = inr (inl record { code = refl; turn = refl; bodies = statements_are; joins = λ slot counter all one before first others. refl })
-template_form Template.Group = inr (inl record { code = refl; turn = refl; bodies = statements_are; joins = λ slot counter all one before first others. refl })
-template_form Template.Comment = inr (inl record { code = refl; turn = refl; bodies = statements_are; joins = λ slot counter all one before first others. refl })
-template_form Template.Proc = inr (inl record { code = refl; turn = refl; bodies = procedure_bodies; joins = λ slot counter all one before first others. refl })
-template_form Template.ProcP = inr (inl record { code = refl; turn = refl; bodies = procedure_bodies; joins = λ slot counter all one before first others. refl })
+template_form Template.While = inr (inl record { code = refl; turn = refl; bodies = statements_are; joins = λ slot counter all one own first others. refl })
+template_form Template.For = inr (inl record { code = refl; turn = refl; bodies = statements_are; joins = λ slot counter all one own first others. refl })
+template_form Template.Until = inr (inl record { code = refl; turn = refl; bodies = statements_are; joins = λ slot counter all one own first others. refl })
+template_form Template.Group = inr (inl record { code = refl; turn = refl; bodies = statements_are; joins = λ slot counter all one own first others. refl })
+template_form Template.Comment = inr (inl record { code = refl; turn = refl; bodies = statements_are; joins = λ slot counter all one own first others. refl })
+template_form Template.Proc = inr (inl record { code = refl; turn = refl; bodies = procedure_bodies; joins = λ slot counter all one own first others. refl })
+template_form Template.ProcP = inr (inl record { code = refl; turn = refl; bodies = procedure_bodies; joins = λ slot counter all one own first others. refl })
 template_form Template.Fixed = inl refl
 template_form Template.Bit = inl refl
 template_form Template.Char = inl refl
@@ -368,7 +369,7 @@ kind_form NodeKind.StatementHole = inl refl
 kind_form NodeKind.ProcedureHole = inl refl
 kind_form NodeKind.Assign = inl refl
 kind_form NodeKind.Main =
-    inr (inl record { code = refl; turn = refl; bodies = procedure_bodies; joins = λ slot counter all one before first others. refl })
+    inr (inl record { code = refl; turn = refl; bodies = procedure_bodies; joins = λ slot counter all one own first others. refl })
 kind_form (NodeKind.Filled template) = template_form template
 
 -- ---- one or two nodes
@@ -423,7 +424,7 @@ module _ (marks : MarkMap) (items : ItemMap) (instrs : List PlainInstr) where
       by (inr (inl kind)) =
           let (one, within, same) = one_inside inner Sort.Statement (if_sorts (sorts inner) (subst (λ (k : NodeKind). Fill (row_of k).sections (sorts inner)) kind node.inner)) in
           alone_goes_on marks items instrs start label inner after node are stands on one within same (ap has_code kind)
-          (none_between marks items label (map length (node_codes marks items inner)) (subst Joins (sym kind) (λ slot counter all one before first others. refl)))
+          (none_between marks items label (map length (node_codes marks items inner)) (subst Joins (sym kind) (λ slot counter all one own first others. refl)))
           (ap (λ (k : NodeKind). in_turn (row_of k).sections) kind)
       by (inr (inr kind)) =
           let (one, within, other, beside, same) =

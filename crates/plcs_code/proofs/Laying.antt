@@ -153,7 +153,6 @@ tallied {a = a} {b = c} (lays_next {between = b} {code = code} one rest) =
     }
 
 -- what was laid into a tally of no instructions was counted, if there weren't too many
-pub whole_count : {E : Type 0} {a b : PlainTally} {u v : PlainCounts} {code : List PlainInstr} (result : Result ℕ E) (number : ℕ) → Tallied a u code b v
-    → a.count ≡ 0 → length code ≡ number → OnOk result (b.failed ≡ false) → IfOk result (λ n. n ≡ b.count) → IfOk result (λ n. n ≡ number)
-whole_count (Ok n) number done none is whole count = omega (arith, done.count whole, none, is, count)
-whole_count (Err error) number done none is whole count = tt
+pub whole_count : {a b : PlainTally} {u v : PlainCounts} {code : List PlainInstr} (n number : ℕ) → Tallied a u code b v → a.count ≡ 0
+    → length code ≡ number → b.failed ≡ false → n ≡ b.count → n ≡ number
+whole_count n number done none is whole count = omega (arith, done.count whole, none, is, count)

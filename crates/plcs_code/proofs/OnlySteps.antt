@@ -225,6 +225,8 @@ template_few q slot all one parts items Template.For stop first =
     for_few q slot all one (part_instrs (part_at parts 1) ++ (part_instrs (part_at parts 2) ++ part_instrs (part_at parts 3))) stop first
     (actions_append (part_instrs (part_at parts 1)) (part_instrs (part_at parts 2) ++ part_instrs (part_at parts 3)) (part_actions (part_at parts 1))
     (actions_append (part_instrs (part_at parts 2)) (part_instrs (part_at parts 3)) (part_actions (part_at parts 2)) (part_actions (part_at parts 3))))
+template_few q slot all one parts items Template.Until stop first =
+    let few = piece_few q slot 1 one (part_instrs (part_at parts 0)) first (part_actions (part_at parts 0)) in omega (arith, few)
 template_few q slot all one parts items Template.Get stop first = get_few q slot all (part_at parts 0) stop
 template_few q slot all one parts items Template.Put stop first =
     piece_few q slot 0 all (listed_instrs PlainInstr.put (listed_exprs (part_at parts 0))) stop
@@ -269,26 +271,28 @@ counter_none : (q : PlainPlace) (make : List ℕ → PlainInstr) (counter : Opti
 counter_none q make None none = refl
 counter_none q make (Some name) none = let no = none name in omega (arith, no)
 
-template_none : (q : PlainPlace) (slot : ℕ) (counter : Option (List ℕ)) (all one : Bool) (before first others : ℕ) (template : Template)
-    → JumpsNone q (template_jumps slot counter all one before first others template)
-template_none q slot counter all one before first others Template.If =
+template_none : (q : PlainPlace) (slot : ℕ) (counter : Option (List ℕ)) (all one : Bool) (own first others : ℕ) (template : Template)
+    → JumpsNone q (template_jumps slot counter all one own first others template)
+template_none q slot counter all one own first others Template.If =
     record { ahead = unless_none q all _ refl; between = refl; back = refl }
-template_none q slot counter all one before first others Template.IfElse =
+template_none q slot counter all one own first others Template.IfElse =
     record { ahead = unless_none q all _ refl; between = refl; back = refl }
-template_none q slot counter all one before first others Template.While =
+template_none q slot counter all one own first others Template.While =
     record { ahead = unless_none q all _ refl; between = refl; back = refl }
-template_none q slot counter all one before first others Template.For =
+template_none q slot counter all one own first others Template.For =
     record {
       ahead = unless_none q all _ (counter_none q _ counter (λ name. refl));
       between = refl;
       back = unless_none q one _ (counter_none q _ counter (λ name. refl));
     }
-template_none q slot counter all one before first others other = no_steps q
+template_none q slot counter all one own first others Template.Until =
+    record { ahead = refl; between = refl; back = unless_none q one _ refl }
+template_none q slot counter all one own first others other = no_steps q
 
-kind_none : (q : PlainPlace) (slot : ℕ) (counter : Option (List ℕ)) (all one : Bool) (before first others : ℕ) (kind : NodeKind)
-    → JumpsNone q (kind_jumps slot counter all one before first others kind)
-kind_none q slot counter all one before first others (NodeKind.Filled template) = template_none q slot counter all one before first others template
-kind_none q slot counter all one before first others other = no_steps q
+kind_none : (q : PlainPlace) (slot : ℕ) (counter : Option (List ℕ)) (all one : Bool) (own first others : ℕ) (kind : NodeKind)
+    → JumpsNone q (kind_jumps slot counter all one own first others kind)
+kind_none q slot counter all one own first others (NodeKind.Filled template) = template_none q slot counter all one own first others template
+kind_none q slot counter all one own first others other = no_steps q
 
 -- ---- nodes
 

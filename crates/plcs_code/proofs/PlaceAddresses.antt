@@ -24,7 +24,7 @@ use Rattle.plcs_code.specs.CodeLaws.{PlacesHaveAddresses, is_marked_first}
 use Rattle.plcs_code.specs.ExprCode.{counter_name}
 use Rattle.plcs_code.specs.declared.node_span.NodeSpan.{NodeSpan}
 use Rattle.plcs_code.specs.Gen.{address_by_place, addresses_in, code_around, codes_around, codes_joined, is_call, length_around, node_address, node_codes, node_lengths, node_spans, place_cmp}
-use Rattle.plcs_code.specs.Pieces.{CodeJumps, first_length, jump_unless, jumps, kind_jumps, other_lengths, pieces, suspension, template_jumps}
+use Rattle.plcs_code.specs.Pieces.{CodeJumps, count_pieces, first_length, jump_unless, jumps, kind_jumps, other_lengths, pieces, suspension, template_jumps}
 use Rattle.plcs_code.specs.PlainInstr.{PlainInstr, place_of}
 use Rattle.plcs_code.proofs.EndedSteps.{EndlessPlace, EndsBy, EndsIn, KindPlace, ends_either, ends_left, ends_right, had_place, place_had}
 use Rattle.plcs_code.proofs.KeyOrder.{places_differ, places_total}
@@ -176,33 +176,35 @@ counter_jump q make None none h = h
 counter_jump q make (Some name) none (inl h) = none name h
 counter_jump q make (Some name) none (inr h) = h
 
-template_ends_not : (q : PlainPlace) (slot : ℕ) (counter : Option (List ℕ)) (all one : Bool) (before first others : ℕ) (template : Template)
-    → NoneEnds q (template_jumps slot counter all one before first others template)
-template_ends_not q slot counter all one before first others Template.If =
+template_ends_not : (q : PlainPlace) (slot : ℕ) (counter : Option (List ℕ)) (all one : Bool) (own first others : ℕ) (template : Template)
+    → NoneEnds q (template_jumps slot counter all one own first others template)
+template_ends_not q slot counter all one own first others Template.If =
     record { ahead = one_jump q all _ nor; between = λ h. h; back = λ h. h }
-template_ends_not q slot counter all one before first others Template.IfElse =
+template_ends_not q slot counter all one own first others Template.IfElse =
     record { ahead = one_jump q all _ nor; between = nor; back = λ h. h }
-template_ends_not q slot counter all one before first others Template.While =
+template_ends_not q slot counter all one own first others Template.While =
     record { ahead = one_jump q all _ nor; between = λ h. h; back = nor }
-template_ends_not q slot counter all one before first others Template.For =
+template_ends_not q slot counter all one own first others Template.For =
     record {
       ahead = one_jump q all _ (counter_jump q _ counter (λ name h. h));
       between = λ h. h;
       back = one_jump q one _ (counter_jump q _ counter (λ name h. h));
     }
-template_ends_not q slot counter all one before first others other = no_jump q
+template_ends_not q slot counter all one own first others Template.Until =
+    record { ahead = λ h. h; between = λ h. h; back = one_jump q one _ nor }
+template_ends_not q slot counter all one own first others other = no_jump q
 
-kind_ends_not : (q : PlainPlace) (slot : ℕ) (counter : Option (List ℕ)) (all one : Bool) (before first others : ℕ) (kind : NodeKind)
-    → NoneEnds q (kind_jumps slot counter all one before first others kind)
-kind_ends_not q slot counter all one before first others (NodeKind.Filled template) =
-    template_ends_not q slot counter all one before first others template
-kind_ends_not q slot counter all one before first others other = no_jump q
+kind_ends_not : (q : PlainPlace) (slot : ℕ) (counter : Option (List ℕ)) (all one : Bool) (own first others : ℕ) (kind : NodeKind)
+    → NoneEnds q (kind_jumps slot counter all one own first others kind)
+kind_ends_not q slot counter all one own first others (NodeKind.Filled template) =
+    template_ends_not q slot counter all one own first others template
+kind_ends_not q slot counter all one own first others other = no_jump q
 
 -- the jumps of a node
 jumps_end_not : (q : PlainPlace) (marks : MarkMap) (items : ItemMap) (label : Label) (lengths : List ℕ) → NoneEnds q (jumps marks items label lengths)
 jumps_end_not q marks items label lengths =
     kind_ends_not q label.slot (counter_name (part_at label.parts 0)) (is_some (suspension marks label.slot label.parts))
-    (is_some (suspension marks label.slot (take 1 label.parts))) (length (pieces marks items label).before) (first_length lengths)
+    (is_some (suspension marks label.slot (take 1 label.parts))) (count_pieces (pieces marks items label)) (first_length lengths)
     (other_lengths lengths) label.kind
 
 -- ---- the places of nodes

@@ -33,6 +33,7 @@ template_itemless slot all one parts items others Template.If none = refl
 template_itemless slot all one parts items others Template.IfElse none = refl
 template_itemless slot all one parts items others Template.While none = refl
 template_itemless slot all one parts items others Template.For none = refl
+template_itemless slot all one parts items others Template.Until none = refl
 template_itemless slot all one parts items others Template.Group none = refl
 template_itemless slot all one parts items others Template.Get none = refl
 template_itemless slot all one parts items others Template.Put none = refl

@@ -1,7 +1,7 @@
 -- The law `own_codes_stay_in_slots`: the steps of a node's pieces are those that its row of the table says, each at a
 -- point of the node's slot, since the code of phrases ends no step; and no row has more than two jumps.
-use Rattle.std.proofs.Common.{◌≡◌, ℕ, ◌+◌, ◌≤◌, Bool, true, false, List, [], ◌∷◌, ◌++◌, length, take, Option, Some, None, refl, arith}
-use Rattle.std.specs.Prelude.{flat_map, option_map, unwrap_or}
+use Rattle.std.proofs.Common.{◌≡◌, ℕ, ◌+◌, ◌≤◌, Bool, true, List, [], ◌∷◌, ◌++◌, length, take, Option, Some, None, refl, arith}
+use Rattle.std.specs.Prelude.{flat_map, unwrap_or}
 use Rattle.std.specs.Option.{option_to_list}
 use Rattle.std.proofs.Math.Bool.{false≢true}
 use Rattle.plcs_base.specs.declared.declared.Declared.{Declared}
@@ -10,11 +10,10 @@ use Rattle.plcs_grammar.specs.declared.template.Template.{Template}
 use Rattle.plcs_grammar.specs.PlainPhrase.{PlainPhrase, PlainVarRef}
 use Rattle.template_tree.specs.Checks.Environment.{parameters_given}
 use Rattle.template_tree.specs.Checks.ProgramMaps.{items_in}
-use Rattle.template_tree.specs.Positions.Place.{place_at}
 use Rattle.template_tree.specs.Programs.Part.{part_at}
 use Rattle.plcs_code.specs.ExprCode.{get_targets, index_instrs, items_instrs, listed_exprs, listed_instrs, part_instrs, variable_instr}
 use Rattle.plcs_code.specs.OwnCode.{EndInSlot, JumpsAreFew, OwnStepsEndInSlot}
-use Rattle.plcs_code.specs.Pieces.{CodeJumps, CodePieces, cell_instr, get_piece, jump_unless, kind_jumps, kind_pieces, parameters_instrs, piece_at, procedure_pieces, suspension, template_jumps, template_pieces}
+use Rattle.plcs_code.specs.Pieces.{CodeJumps, CodePieces, cell_instr, count_pieces, get_piece, kind_jumps, kind_pieces, parameters_instrs, piece_at, procedure_pieces, suspension, template_jumps, template_pieces}
 use Rattle.plcs_code.specs.PlainInstr.{PlainInstr}
 use Rattle.plcs_code.proofs.CodeActions.{AreActions, IsStop, actions_append, cells_actions, is_action, listed_actions, parameters_actions, part_actions, suspension_stops, target_actions}
 
@@ -91,6 +90,8 @@ template_end slot all one parts items Template.For stop first = (
       (part_actions (part_at parts 3)))),
   piece_end slot 1 one [] first tt,
 )
+template_end slot all one parts items Template.Until stop first =
+    (tt, piece_end slot 1 one (part_instrs (part_at parts 0)) first (part_actions (part_at parts 0)))
 template_end slot all one parts items Template.Get stop first = (get_end slot all (part_at parts 0) stop, tt)
 template_end slot all one parts items Template.Put stop first = (
   piece_end slot 0 all (listed_instrs PlainInstr.put (listed_exprs (part_at parts 0))) stop
@@ -139,28 +140,31 @@ jump_count jumps =
 two_at_most : (one other : Option PlainInstr) → length (option_to_list one) + length (option_to_list other) ≤ 2
 two_at_most one other = omega (arith, one_at_most one, one_at_most other)
 
-template_few : (slot : ℕ) (counter : Option (List ℕ)) (all one : Bool) (before first others : ℕ) (template : Template)
-    → jump_count (template_jumps slot counter all one before first others template) ≤ 2
-template_few slot counter all one before first others Template.If =
-    let around : CodeJumps = template_jumps slot counter all one before first others Template.If in
+template_few : (slot : ℕ) (counter : Option (List ℕ)) (all one : Bool) (own first others : ℕ) (template : Template)
+    → jump_count (template_jumps slot counter all one own first others template) ≤ 2
+template_few slot counter all one own first others Template.If =
+    let around : CodeJumps = template_jumps slot counter all one own first others Template.If in
     omega (arith, one_at_most around.ahead)
-template_few slot counter all one before first others Template.IfElse =
-    let around : CodeJumps = template_jumps slot counter all one before first others Template.IfElse in
+template_few slot counter all one own first others Template.IfElse =
+    let around : CodeJumps = template_jumps slot counter all one own first others Template.IfElse in
     omega (arith, one_at_most around.ahead, one_at_most around.between)
-template_few slot counter all one before first others Template.While =
-    let around : CodeJumps = template_jumps slot counter all one before first others Template.While in
+template_few slot counter all one own first others Template.While =
+    let around : CodeJumps = template_jumps slot counter all one own first others Template.While in
     omega (arith, one_at_most around.ahead, one_at_most around.back)
-template_few slot counter all one before first others Template.For =
-    let around : CodeJumps = template_jumps slot counter all one before first others Template.For in
+template_few slot counter all one own first others Template.For =
+    let around : CodeJumps = template_jumps slot counter all one own first others Template.For in
     omega (arith, one_at_most around.ahead, one_at_most around.back)
-template_few slot counter all one before first others other = omega arith
+template_few slot counter all one own first others Template.Until =
+    let around : CodeJumps = template_jumps slot counter all one own first others Template.Until in
+    omega (arith, one_at_most around.back)
+template_few slot counter all one own first others other = omega arith
 
-kind_few : (slot : ℕ) (counter : Option (List ℕ)) (all one : Bool) (before first others : ℕ) (kind : NodeKind)
-    → jump_count (kind_jumps slot counter all one before first others kind) ≤ 2
-kind_few slot counter all one before first others (NodeKind.Filled template) =
-    template_few slot counter all one before first others template
-kind_few slot counter all one before first others other = omega arith
+kind_few : (slot : ℕ) (counter : Option (List ℕ)) (all one : Bool) (own first others : ℕ) (kind : NodeKind)
+    → jump_count (kind_jumps slot counter all one own first others kind) ≤ 2
+kind_few slot counter all one own first others (NodeKind.Filled template) =
+    template_few slot counter all one own first others template
+kind_few slot counter all one own first others other = omega arith
 
 pub jumps_are_few : JumpsAreFew
 jumps_are_few own first others =
-    kind_few own.slot own.counter own.all_stopped own.one_stopped (length own.pieces.before) first others own.kind
+    kind_few own.slot own.counter own.all_stopped own.one_stopped (count_pieces own.pieces) first others own.kind

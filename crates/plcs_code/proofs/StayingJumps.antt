@@ -153,6 +153,8 @@ template_nowhere slot all one parts items Template.For stop first =
           (part_actions (part_at parts 3))));
       behind = piece_nowhere slot 1 one [] first tt;
     }
+template_nowhere slot all one parts items Template.Until stop first =
+    record { before = tt; behind = piece_nowhere slot 1 one (part_instrs (part_at parts 0)) first (part_actions (part_at parts 0)) }
 template_nowhere slot all one parts items Template.Group stop first = record { before = tt; behind = tt }
 template_nowhere slot all one parts items Template.Get stop first =
     record { before = get_nowhere slot all (part_at parts 0) stop; behind = tt }
@@ -214,7 +216,7 @@ none_right : (before behind first others : ℕ) → JumpsRight before behind fir
 none_right before behind first others = record { ahead = tt; between = tt; back = tt }
 
 if_right : (slot : ℕ) (counter : Option (List ℕ)) (all one : Bool) (before behind first others : ℕ)
-    → JumpsRight before behind first others (template_jumps slot counter all one before first others Template.If)
+    → JumpsRight before behind first others (template_jumps slot counter all one (before + behind) first others Template.If)
 if_right slot counter true one before behind first others = record { ahead = tt; between = tt; back = tt }
 if_right slot counter false one before behind first others =
     record {
@@ -224,7 +226,7 @@ if_right slot counter false one before behind first others =
     }
 
 if_else_right : (slot : ℕ) (counter : Option (List ℕ)) (all one : Bool) (before behind first others : ℕ)
-    → JumpsRight before behind first others (template_jumps slot counter all one before first others Template.IfElse)
+    → JumpsRight before behind first others (template_jumps slot counter all one (before + behind) first others Template.IfElse)
 if_else_right slot counter true one before behind first others =
     record {
       ahead = tt;
@@ -238,25 +240,25 @@ if_else_right slot counter false one before behind first others =
       back = tt;
     }
 
-while_right : (slot : ℕ) (counter : Option (List ℕ)) (all one : Bool) (before behind first others : ℕ) → behind ≡ 0
-    → JumpsRight before behind first others (template_jumps slot counter all one before first others Template.While)
-while_right slot counter true one before behind first others none =
+while_right : (slot : ℕ) (counter : Option (List ℕ)) (all one : Bool) (before behind first others : ℕ)
+    → JumpsRight before behind first others (template_jumps slot counter all one (before + behind) first others Template.While)
+while_right slot counter true one before behind first others =
     record {
       ahead = tt;
       between = tt;
-      back = (0, omega (arith, ints, none), omega arith);
+      back = (0, omega (arith, ints), omega arith);
     }
-while_right slot counter false one before behind first others none =
+while_right slot counter false one before behind first others =
     record {
-      ahead = (before + 1 + first + others + 1, omega (arith, ints), omega (arith, none));
+      ahead = (before + 1 + first + others + 1, omega (arith, ints), omega arith);
       between = tt;
-      back = (0, omega (arith, ints, none), omega arith);
+      back = (0, omega (arith, ints), omega arith);
     }
 
 -- behind the body of a loop that counts there are two instructions
 for_right : (slot : ℕ) (counter : Option (List ℕ)) (all : Bool) (one : Option PlainInstr) (before first others : ℕ)
     → JumpsRight before (length (piece_at slot 1 one [])) first others
-    (template_jumps slot counter all (is_some one) before first others Template.For)
+    (template_jumps slot counter all (is_some one) (before + length (piece_at slot 1 one [])) first others Template.For)
 for_right slot None true None before first others = record { ahead = tt; between = tt; back = tt }
 for_right slot None true (Some stop) before first others = record { ahead = tt; between = tt; back = tt }
 for_right slot None false None before first others = record { ahead = tt; between = tt; back = tt }
@@ -281,12 +283,24 @@ for_right slot (Some name) false (Some stop) before first others =
       back = tt;
     }
 
+-- the test at the end of a loop goes back to where its code begins
+until_right : (slot : ℕ) (counter : Option (List ℕ)) (all one : Bool) (before behind first others : ℕ)
+    → JumpsRight before behind first others (template_jumps slot counter all one (before + behind) first others Template.Until)
+until_right slot counter all true before behind first others = record { ahead = tt; between = tt; back = tt }
+until_right slot counter all false before behind first others =
+    record {
+      ahead = tt;
+      between = tt;
+      back = (0, omega (arith, ints), omega arith);
+    }
+
 -- the jumps by the table, with the pieces by the table
 abbrev TemplateRight : (slot : ℕ) (all one : Option PlainInstr) (parts : List (Option PlainPhrase)) (items : List Declared)
     (counter : Option (List ℕ)) (before first others : ℕ) (template : Template) → Type 0
 TemplateRight slot all one parts items counter before first others template =
     JumpsRight before (length (template_pieces slot all one parts items template).behind) first others
-    (template_jumps slot counter (is_some all) (is_some one) before first others template)
+    (template_jumps slot counter (is_some all) (is_some one)
+    (before + length (template_pieces slot all one parts items template).behind) first others template)
 
 template_right : (slot : ℕ) (all one : Option PlainInstr) (parts : List (Option PlainPhrase)) (items : List Declared)
     (counter : Option (List ℕ)) (before first others : ℕ) (template : Template)
@@ -296,15 +310,19 @@ template_right slot all one parts items counter before first others Template.If 
 template_right slot all one parts items counter before first others Template.IfElse =
     if_else_right slot counter (is_some all) (is_some one) before 0 first others
 template_right slot all one parts items counter before first others Template.While =
-    while_right slot counter (is_some all) (is_some one) before 0 first others refl
+    while_right slot counter (is_some all) (is_some one) before 0 first others
 template_right slot all one parts items counter before first others Template.For =
     for_right slot counter (is_some all) one before first others
+template_right slot all one parts items counter before first others Template.Until =
+    until_right slot counter (is_some all) (is_some one) before
+    (length (template_pieces slot all one parts items Template.Until).behind) first others
 template_right slot all one parts items counter before first others other = none_right before _ first others
 
 kind_right : (slot : ℕ) (all one : Option PlainInstr) (parts : List (Option PlainPhrase)) (items : List Declared)
     (counter : Option (List ℕ)) (before first others : ℕ) (kind : NodeKind)
     → JumpsRight before (length (kind_pieces slot all one parts items kind).behind) first others
-    (kind_jumps slot counter (is_some all) (is_some one) before first others kind)
+    (kind_jumps slot counter (is_some all) (is_some one) (before + length (kind_pieces slot all one parts items kind).behind)
+    first others kind)
 kind_right slot all one parts items counter before first others (NodeKind.Filled template) =
     template_right slot all one parts items counter before first others template
 kind_right slot all one parts items counter before first others other = none_right before _ first others

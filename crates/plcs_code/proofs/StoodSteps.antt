@@ -1,5 +1,5 @@
 -- What stands at the address of a place. A step that ends at a place has the address at which it stands in the code;
--- the start of a group or a comment, and where a call comes back, have the ends of their spans, which are those of the
+-- the start of what passes a run on, and where a call comes back, have the ends of their spans, which are those of the
 -- first node in the slot.
 use Rattle.std.proofs.Common.{◌≡◌, ℕ, zero, suc, ◌+◌, ◌≤◌, Bool, true, false, List, [], ◌∷◌, ◌++◌, Option, Some, None, refl, ap, sym, subst, ◌∙◌, arith}
 use Rattle.std.specs.Prelude.{◌&&◌, ◌==◌, IsSome, cond, flat_map, if◌then◌else◌, not, slice_get}
@@ -157,6 +157,7 @@ passes_code : (kind : NodeKind) → passes_in kind ≡ true → has_code kind �
 passes_code (NodeKind.Filled template) is = by template is
   where
     by : (template : Template) → passes_in (NodeKind.Filled template) ≡ true → has_code (NodeKind.Filled template) ≡ true
+    by Template.Until is = refl
     by Template.Group is = refl
     by Template.Comment is = refl
     by other is = absurd (false≢true is)

@@ -146,8 +146,8 @@ abbrev pub is_call : NodeKind → Bool
 is_call (NodeKind.Filled Template.Call) = true
 is_call other = false
 
--- the addresses of a node, by its places at which no step ends: a group's or a comment's start is that of its first
--- item, and a call comes back behind its code
+-- the addresses of a node, by its places at which no step ends: the start of a group, a comment or an Until is that
+-- of its first item, and a call comes back behind its code
 abbrev pub node_address : NodeSpan → List (Place × ℕ)
 node_address node =
     if passes_in node.kind then (place_of (place_at node.slot.0 0), node.start) ∷ []

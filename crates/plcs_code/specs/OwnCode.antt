@@ -9,7 +9,7 @@ use Rattle.template_tree.specs.Checks.Environment.{Heading, heading_of, may_be_c
 use Rattle.template_tree.specs.Programs.Part.{part_at}
 use Rattle.template_tree.specs.Programs.PlainTree.{Label}
 use Rattle.plcs_code.specs.ExprCode.{counter_name}
-use Rattle.plcs_code.specs.Pieces.{CodeJumps, CodePieces, first_length, kind_jumps, other_lengths, pieces, suspension}
+use Rattle.plcs_code.specs.Pieces.{CodeJumps, CodePieces, count_pieces, first_length, kind_jumps, other_lengths, pieces, suspension}
 use Rattle.plcs_code.specs.PlainInstr.{PlainInstr}
 
 -- what the own code of a node is made of: the node's slot and kind, the name by which calls find it, the variable with
@@ -57,7 +57,7 @@ no_own_code =
 -- the jumps of own code, where the first code inside has one length, and the others together have another
 abbrev pub jumps_around : PlainOwnCode → (first others : ℕ) → CodeJumps
 jumps_around own first others =
-    kind_jumps own.slot own.counter own.all_stopped own.one_stopped (length own.pieces.before) first others own.kind
+    kind_jumps own.slot own.counter own.all_stopped own.one_stopped (count_pieces own.pieces) first others own.kind
 
 -- the jumps of own code, where the codes inside have these lengths
 abbrev pub jumps_beside : PlainOwnCode → (lengths : List ℕ) → CodeJumps

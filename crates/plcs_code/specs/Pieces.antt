@@ -50,6 +50,10 @@ pub record CodePieces : Type 0 where
   pub before : List PlainInstr
   pub behind : List PlainInstr
 
+-- how many instructions the pieces of a node have together
+abbrev pub count_pieces : CodePieces → ℕ
+count_pieces own = length own.before + length own.behind
+
 -- the pieces of a node that has nothing of its own behind what stands inside it
 abbrev pub one_piece : List PlainInstr → CodePieces
 one_piece code = record { before = code; behind = [] }
@@ -58,9 +62,9 @@ one_piece code = record { before = code; behind = [] }
 abbrev pub piece_at : (slot point : ℕ) → Option PlainInstr → List PlainInstr → List PlainInstr
 piece_at slot point stop code = PlainInstr.place (place_at slot point) ∷ unless_stopped stop code
 
--- the piece of a statement that runs the code of its first part
-abbrev pub first_piece : (slot : ℕ) → Option PlainInstr → List (Option PlainPhrase) → List PlainInstr
-first_piece slot stop parts = piece_at slot 0 stop (part_instrs (part_at parts 0))
+-- the piece at a point of a slot that runs the code of the first part of the statement there
+abbrev pub first_piece : (slot point : ℕ) → Option PlainInstr → List (Option PlainPhrase) → List PlainInstr
+first_piece slot point stop parts = piece_at slot point stop (part_instrs (part_at parts 0))
 
 -- the piece before a loop that counts: its first value, its limit and its step
 abbrev pub enter_piece : (slot : ℕ) → Option PlainInstr → List (Option PlainPhrase) → List PlainInstr
@@ -115,18 +119,20 @@ abbrev pub template_pieces : (slot : ℕ) (all one : Option PlainInstr) (parts :
 template_pieces slot all one parts items Template.Fixed = one_piece []
 template_pieces slot all one parts items Template.Bit = one_piece []
 template_pieces slot all one parts items Template.Char = one_piece []
-template_pieces slot all one parts items Template.If = one_piece (first_piece slot all parts)
-template_pieces slot all one parts items Template.IfElse = one_piece (first_piece slot all parts)
-template_pieces slot all one parts items Template.While = one_piece (first_piece slot all parts)
+template_pieces slot all one parts items Template.If = one_piece (first_piece slot 0 all parts)
+template_pieces slot all one parts items Template.IfElse = one_piece (first_piece slot 0 all parts)
+template_pieces slot all one parts items Template.While = one_piece (first_piece slot 0 all parts)
 template_pieces slot all one parts items Template.For =
     record { before = enter_piece slot all parts; behind = piece_at slot 1 one [] }
+template_pieces slot all one parts items Template.Until =
+    record { before = []; behind = first_piece slot 1 one parts }
 template_pieces slot all one parts items Template.Group = one_piece []
 template_pieces slot all one parts items Template.Get = one_piece (get_piece slot all (part_at parts 0))
 template_pieces slot all one parts items Template.Put =
     one_piece (piece_at slot 0 all (listed_instrs PlainInstr.put (listed_exprs (part_at parts 0))))
 template_pieces slot all one parts items Template.PutSkip =
     one_piece (piece_at slot 0 all (listed_instrs PlainInstr.put_skip (listed_exprs (part_at parts 0))))
-template_pieces slot all one parts items Template.Call = one_piece (first_piece slot all parts)
+template_pieces slot all one parts items Template.Call = one_piece (first_piece slot 0 all parts)
 template_pieces slot all one parts items Template.Return = one_piece (piece_at slot 0 None (PlainInstr.leave ∷ []))
 template_pieces slot all one parts items Template.Comment = one_piece []
 template_pieces slot all one parts items Template.Proc = procedure_pieces slot items []
@@ -141,7 +147,7 @@ kind_pieces slot all one parts items NodeKind.StatementHole =
     one_piece (piece_at slot 0 None (PlainInstr.suspend_placeholder ∷ []))
 kind_pieces slot all one parts items NodeKind.ProcedureHole = one_piece []
 kind_pieces slot all one parts items NodeKind.Main = procedure_pieces slot items []
-kind_pieces slot all one parts items NodeKind.Assign = one_piece (first_piece slot all parts)
+kind_pieces slot all one parts items NodeKind.Assign = one_piece (first_piece slot 0 all parts)
 kind_pieces slot all one parts items (NodeKind.Filled template) = template_pieces slot all one parts items template
 
 -- the pieces of a node, where main or a procedure has these effective items
@@ -172,6 +178,10 @@ jump_unless false jump = jump
 abbrev pub test_jump : (stopped : Bool) (ahead : ℕ) → Option PlainInstr
 test_jump stopped ahead = jump_unless stopped (Some (PlainInstr.jump_false (pos ahead)))
 
+-- the jump of a condition that is tested at the end, which goes so far back where it is false
+abbrev pub test_back_jump : (stopped : Bool) (back : ℕ) → Option PlainInstr
+test_back_jump stopped back = jump_unless stopped (Some (PlainInstr.jump_false (neg_ℤ (pos back))))
+
 -- the instruction that enters a loop that counts with a variable, or jumps so far ahead
 abbrev pub enter_jump : (slot : ℕ) (counter : Option (List ℕ)) (stopped : Bool) (ahead : ℕ) → Option PlainInstr
 enter_jump slot counter stopped ahead =
@@ -189,57 +199,59 @@ back_jump back = Some (PlainInstr.jump (neg_ℤ (pos back)))
 -- ---- the table of jumps
 
 -- the jumps of a node of the template in a slot, which counts with the variable, if it is there; where the piece that
--- needs all its parts is stopped or not, and the one that needs the first; where so many instructions stand before what
--- is inside, of which the first node has code of one length, and the others together of another
-abbrev pub template_jumps : (slot : ℕ) (counter : Option (List ℕ)) (all one : Bool) (before first others : ℕ)
+-- needs all its parts is stopped or not, and the one that needs the first; where its pieces have so many instructions,
+-- and of what is inside the first node has code of one length, and the others together of another
+abbrev pub template_jumps : (slot : ℕ) (counter : Option (List ℕ)) (all one : Bool) (own first others : ℕ)
     → Template → CodeJumps
-template_jumps slot counter all one before first others Template.Fixed = no_jumps
-template_jumps slot counter all one before first others Template.Bit = no_jumps
-template_jumps slot counter all one before first others Template.Char = no_jumps
-template_jumps slot counter all one before first others Template.If =
+template_jumps slot counter all one own first others Template.Fixed = no_jumps
+template_jumps slot counter all one own first others Template.Bit = no_jumps
+template_jumps slot counter all one own first others Template.Char = no_jumps
+template_jumps slot counter all one own first others Template.If =
     record { ahead = test_jump all (first + others); between = None; back = None }
-template_jumps slot counter all one before first others Template.IfElse =
+template_jumps slot counter all one own first others Template.IfElse =
     record { ahead = test_jump all (first + 1); between = Some (PlainInstr.jump (pos others)); back = None }
-template_jumps slot counter all one before first others Template.While =
+template_jumps slot counter all one own first others Template.While =
     let test = test_jump all (first + others + 1) in
     record {
       ahead = test;
       between = None;
-      back = back_jump (before + length (option_to_list test) + (first + others) + 1);
+      back = back_jump (own + length (option_to_list test) + (first + others) + 1);
     }
-template_jumps slot counter all one before first others Template.For =
+template_jumps slot counter all one own first others Template.For =
     record {
       ahead = enter_jump slot counter all (first + others + 2);
       between = None;
       back = iteration_jump slot counter one (first + others + 2);
     }
-template_jumps slot counter all one before first others Template.Group = no_jumps
-template_jumps slot counter all one before first others Template.Get = no_jumps
-template_jumps slot counter all one before first others Template.Put = no_jumps
-template_jumps slot counter all one before first others Template.PutSkip = no_jumps
-template_jumps slot counter all one before first others Template.Call = no_jumps
-template_jumps slot counter all one before first others Template.Return = no_jumps
-template_jumps slot counter all one before first others Template.Comment = no_jumps
-template_jumps slot counter all one before first others Template.Proc = no_jumps
-template_jumps slot counter all one before first others Template.ProcP = no_jumps
+template_jumps slot counter all one own first others Template.Until =
+    record { ahead = None; between = None; back = test_back_jump one (own + (first + others) + 1) }
+template_jumps slot counter all one own first others Template.Group = no_jumps
+template_jumps slot counter all one own first others Template.Get = no_jumps
+template_jumps slot counter all one own first others Template.Put = no_jumps
+template_jumps slot counter all one own first others Template.PutSkip = no_jumps
+template_jumps slot counter all one own first others Template.Call = no_jumps
+template_jumps slot counter all one own first others Template.Return = no_jumps
+template_jumps slot counter all one own first others Template.Comment = no_jumps
+template_jumps slot counter all one own first others Template.Proc = no_jumps
+template_jumps slot counter all one own first others Template.ProcP = no_jumps
 
 -- the jumps that the table of code has for each kind of node, told as those of a template are
-abbrev pub kind_jumps : (slot : ℕ) (counter : Option (List ℕ)) (all one : Bool) (before first others : ℕ) → NodeKind
+abbrev pub kind_jumps : (slot : ℕ) (counter : Option (List ℕ)) (all one : Bool) (own first others : ℕ) → NodeKind
     → CodeJumps
-kind_jumps slot counter all one before first others NodeKind.DeclarationHole = no_jumps
-kind_jumps slot counter all one before first others NodeKind.StatementHole = no_jumps
-kind_jumps slot counter all one before first others NodeKind.ProcedureHole = no_jumps
-kind_jumps slot counter all one before first others NodeKind.Main = no_jumps
-kind_jumps slot counter all one before first others NodeKind.Assign = no_jumps
-kind_jumps slot counter all one before first others (NodeKind.Filled template) =
-    template_jumps slot counter all one before first others template
+kind_jumps slot counter all one own first others NodeKind.DeclarationHole = no_jumps
+kind_jumps slot counter all one own first others NodeKind.StatementHole = no_jumps
+kind_jumps slot counter all one own first others NodeKind.ProcedureHole = no_jumps
+kind_jumps slot counter all one own first others NodeKind.Main = no_jumps
+kind_jumps slot counter all one own first others NodeKind.Assign = no_jumps
+kind_jumps slot counter all one own first others (NodeKind.Filled template) =
+    template_jumps slot counter all one own first others template
 
--- the jumps that the table of code has for a node, before what is inside of which so many instructions stand, where its
+-- the jumps that the table of code has for a node whose pieces have so many instructions, where of what is inside the
 -- first node has code of one length, and the others together of another
-abbrev pub own_jumps : MarkMap → Label → (before first others : ℕ) → CodeJumps
-own_jumps marks label before first others =
+abbrev pub own_jumps : MarkMap → Label → (own first others : ℕ) → CodeJumps
+own_jumps marks label own first others =
     kind_jumps label.slot (counter_name (part_at label.parts 0)) (is_some (suspension marks label.slot label.parts))
-    (is_some (suspension marks label.slot (take 1 label.parts))) before first others label.kind
+    (is_some (suspension marks label.slot (take 1 label.parts))) own first others label.kind
 
 -- ---- by the items of a program, and by the lengths of the codes inside
 
@@ -260,4 +272,4 @@ pieces marks items label = own_pieces marks (items_in items label.slot) label
 -- the jumps of a node's code, where the codes of the nodes inside it have these lengths
 abbrev pub jumps : MarkMap → ItemMap → Label → (lengths : List ℕ) → CodeJumps
 jumps marks items label lengths =
-    own_jumps marks label (length (pieces marks items label).before) (first_length lengths) (other_lengths lengths)
+    own_jumps marks label (count_pieces (pieces marks items label)) (first_length lengths) (other_lengths lengths)

@@ -38,8 +38,8 @@ pub fn places_have_addresses()
     ensures { PlacesHaveAddresses }
 {}
 
-/// At the address of a place stands the step that ends there. A group or a comment begins where its first item
-/// does, and a call comes back at the end of its code.
+/// At the address of a place stands the step that ends there. A group, a comment or an Until begins where its
+/// first item does, and a call comes back at the end of its code.
 pub fn addresses_hold_steps()
     ensures steps { AddressesHoldSteps }
     ensures starts { PassedStartsStand }

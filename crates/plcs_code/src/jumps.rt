@@ -4,7 +4,7 @@ ghost use Rattle.std.specs.Option.{option_to_list};
 ghost use Rattle.template_tree.specs.Programs.Part.{part_at};
 ghost use Rattle.plcs_code.specs.BlockLimit.{most_instrs};
 ghost use Rattle.plcs_code.specs.ExprCode.{counter_name};
-ghost use Rattle.plcs_code.specs.Pieces.{back_jump, enter_jump, iteration_jump, kind_jumps, no_jumps, own_jumps, template_jumps, test_jump};
+ghost use Rattle.plcs_code.specs.Pieces.{back_jump, enter_jump, iteration_jump, kind_jumps, no_jumps, own_jumps, template_jumps, test_back_jump, test_jump};
 ghost use Rattle.plcs_code.specs.PlainInstr.{plain_instr};
 ghost use Rattle.plcs_code.specs.Private.LaysAll.{LaysAll};
 ghost use Rattle.plcs_code.specs.Private.PlainJumps.{plain_jumps};
@@ -28,18 +28,18 @@ pub(crate) struct Jumps {
     pub(crate) back: Option<Instr>,
 }
 
-/// The jumps of a node, before what is inside of which so many instructions stand, where its first node has
-/// code of one length, and the others together of another.
+/// The jumps of a node whose pieces have so many instructions, where of what is inside the first node has code of
+/// one length, and the others together of another.
 pub(crate) fn own_jumps<M: Marked>(
     node: &Node,
     marks: &M,
-    before: u32,
+    own: u32,
     first: u32,
     others: u32,
 ) -> Jumps
     requires few { length node.now.label.parts < 256 }
-    requires short { before + first + others + 2 ≤ most_instrs }
-    ensures { plain_jumps result ≡ own_jumps (M.marks marks.now) node.now.label before first others }
+    requires short { own + first + others + 2 ≤ most_instrs }
+    ensures { plain_jumps result ≡ own_jumps (M.marks marks.now) node.now.label own first others }
 {
     let all = suspension(node, marks).is_some();
     let one = first_suspension(node, marks).is_some();
@@ -49,7 +49,7 @@ pub(crate) fn own_jumps<M: Marked>(
         counter_name(node),
         all,
         one,
-        before,
+        own,
         first,
         others,
     )
@@ -63,13 +63,13 @@ pub(crate) fn kind_jumps(
     counter: Option<&Name>,
     all: bool,
     one: bool,
-    before: u32,
+    own: u32,
     first: u32,
     others: u32,
 ) -> Jumps
-    requires short { before + first + others + 2 ≤ most_instrs }
+    requires short { own + first + others + 2 ≤ most_instrs }
     ensures { plain_jumps result
-        ≡ kind_jumps slot.0 (option_map (λ name. name.now) counter.entry) all one before first others kind }
+        ≡ kind_jumps slot.0 (option_map (λ name. name.now) counter.entry) all one own first others kind }
 {
     match kind {
         NodeKind::DeclarationHole => no_jumps(),
@@ -78,7 +78,7 @@ pub(crate) fn kind_jumps(
         NodeKind::Main => no_jumps(),
         NodeKind::Assign => no_jumps(),
         NodeKind::Filled(template) => {
-            template_jumps(slot, template, counter, all, one, before, first, others)
+            template_jumps(slot, template, counter, all, one, own, first, others)
         }
     }
 }
@@ -102,13 +102,13 @@ fn template_jumps(
     counter: Option<&Name>,
     all: bool,
     one: bool,
-    before: u32,
+    own: u32,
     first: u32,
     others: u32,
 ) -> Jumps
-    requires short { before + first + others + 2 ≤ most_instrs }
+    requires short { own + first + others + 2 ≤ most_instrs }
     ensures { plain_jumps result
-        ≡ template_jumps slot.0 (option_map (λ name. name.now) counter.entry) all one before first others template }
+        ≡ template_jumps slot.0 (option_map (λ name. name.now) counter.entry) all one own first others template }
 {
     match template {
         Template::Fixed => no_jumps(),
@@ -124,11 +124,16 @@ fn template_jumps(
             between: Some(Instr::Jump(others as i32)),
             back: None,
         },
-        Template::While => while_jumps(all, before, first + others),
+        Template::While => while_jumps(all, own, first + others),
         Template::For => Jumps {
             ahead: enter_jump(slot, counter, all, first + others + 2),
             between: None,
             back: iteration_jump(slot, counter, one, first + others + 2),
+        },
+        Template::Until => Jumps {
+            ahead: None,
+            between: None,
+            back: test_back_jump(one, own + first + others + 1),
         },
         Template::Group => no_jumps(),
         Template::Get => no_jumps(),
@@ -142,22 +147,22 @@ fn template_jumps(
     }
 }
 
-/// The jumps of a While whose condition is stopped or not, before the body of which so many instructions
-/// stand, and which has a body of this length.
-fn while_jumps(stopped: bool, before: u32, inside: u32) -> Jumps
-    requires short { before + inside + 2 ≤ most_instrs }
+/// The jumps of a While whose condition is stopped or not, whose piece has so many instructions, and which has a
+/// body of this length.
+fn while_jumps(stopped: bool, own: u32, inside: u32) -> Jumps
+    requires short { own + inside + 2 ≤ most_instrs }
     ensures { plain_jumps result
         ≡ record {
           ahead = test_jump stopped (inside + 1);
           between = None;
-          back = back_jump (before + length (option_to_list (test_jump stopped (inside + 1))) + inside + 1);
+          back = back_jump (own + length (option_to_list (test_jump stopped (inside + 1))) + inside + 1);
         } }
 {
     let test = u32::from(!stopped);
     Jumps {
         ahead: test_jump(stopped, inside + 1),
         between: None,
-        back: Some(Instr::Jump(back_by(before + test + inside + 1))),
+        back: Some(Instr::Jump(back_by(own + test + inside + 1))),
     }
 }
 
@@ -170,6 +175,17 @@ fn test_jump(stopped: bool, ahead: u32) -> Option<Instr>
         return None;
     }
     Some(Instr::JumpFalse(ahead as i32))
+}
+
+/// The jump back of a condition that is tested at the end, if it isn't stopped.
+fn test_back_jump(stopped: bool, back: u32) -> Option<Instr>
+    requires few { back ≤ most_instrs }
+    ensures { option_map plain_instr result ≡ test_back_jump stopped back }
+{
+    if stopped {
+        return None;
+    }
+    Some(Instr::JumpFalse(back_by(back)))
 }
 
 /// The instruction that enters a loop that counts, if its variable is there, and it isn't stopped.

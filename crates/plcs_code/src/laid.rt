@@ -115,7 +115,7 @@ impl<W: Work> Laid<W> {
             return Err(OutOfMemory);
         };
         match self.lay_inside(alloc, node, behind.between, marks, scope, lengths, work) {
-            Ok(()) => self.lay_rest(node, marks, behind.back, work),
+            Ok(()) => self.lay_rest(alloc, node, marks, behind.back, work),
             Err(OutOfMemory) => {
                 drop(behind.back);
                 Err(OutOfMemory)
@@ -180,8 +180,7 @@ impl<W: Work> Laid<W> {
         work: &mut W,
     ) -> Result<JumpsBehind, OutOfMemory>
         requires few { length node.now.label.parts < 256 }
-        requires short { length (pieces (M.marks marks.now) (D.items scope.now) node.now.label).before
-            + lengths.first + lengths.others + 2 ≤ most_instrs }
+        requires short { lengths.pieces + lengths.first + lengths.others + 2 ≤ most_instrs }
         ensures laid { OnOk result (self.new ≡ with_instrs
             (front (M.marks marks.now) (D.items scope.now) node.now.label lengths) (with_span (record {
               slot = record { 0 = node.now.label.slot };
@@ -237,8 +236,7 @@ impl<W: Work> Laid<W> {
         work: &mut W,
     ) -> Result<JumpsBehind, OutOfMemory>
         requires few { length node.now.label.parts < 256 }
-        requires short { length (pieces (M.marks marks.now) (D.items scope.now) node.now.label).before
-            + lengths.first + lengths.others + 2 ≤ most_instrs }
+        requires short { lengths.pieces + lengths.first + lengths.others + 2 ≤ most_instrs }
         ensures laid { OnOk result (self.new ≡ with_instrs
             (front (M.marks marks.now) (D.items scope.now) node.now.label lengths) self.old) }
         ensures between { IfOk result (λ behind. option_map plain_instr behind.between
@@ -251,10 +249,10 @@ impl<W: Work> Laid<W> {
         ensures counts { EmitsAtMost (length (front (M.marks marks.now) (D.items scope.now) node.now.label lengths))
             (W.counts work.old) (W.counts work.new) }
     {
-        let Ok(before) = self.lay_before_by_scope(alloc, node, marks, scope, work) else {
+        let Ok(()) = self.lay_before_by_scope(alloc, node, marks, scope, work) else {
             return Err(OutOfMemory);
         };
-        let jumps = own_jumps(node, marks, before, lengths.first, lengths.others);
+        let jumps = own_jumps(node, marks, lengths.pieces, lengths.first, lengths.others);
         let behind = JumpsBehind {
             between: jumps.between,
             back: jumps.back,
@@ -269,8 +267,7 @@ impl<W: Work> Laid<W> {
         }
     }
 
-    /// Lays what stands in the own code of a node before the nodes inside it, by the effective items of the program;
-    /// and answers how much that is.
+    /// Lays what stands in the own code of a node before the nodes inside it, by the effective items of the program.
     fn lay_before_by_scope<M: Marked, D: Scope>(
         &mut self,
         alloc: Global,
@@ -278,10 +275,8 @@ impl<W: Work> Laid<W> {
         marks: &M,
         scope: &D,
         work: &mut W,
-    ) -> Result<u32, OutOfMemory>
+    ) -> Result<(), OutOfMemory>
         requires few { length node.now.label.parts < 256 }
-        ensures length { IfOk result (λ n. n
-            ≡ length (pieces (M.marks marks.now) (D.items scope.now) node.now.label).before) }
         ensures laid { OnOk result (self.new ≡ with_instrs
             (pieces (M.marks marks.now) (D.items scope.now) node.now.label).before self.old) }
         ensures counted { OnOk result (Emits
@@ -301,7 +296,7 @@ impl<W: Work> Laid<W> {
     }
 
     /// Lays the code of the program node by node: of this node what stands in its own code before the nodes
-    /// inside it; and answers how much that is.
+    /// inside it.
     fn lay_before<M: Marked>(
         &mut self,
         alloc: Global,
@@ -309,10 +304,8 @@ impl<W: Work> Laid<W> {
         marks: &M,
         items: &[Declared],
         work: &mut W,
-    ) -> Result<u32, OutOfMemory>
+    ) -> Result<(), OutOfMemory>
         requires few { length node.now.label.parts < 256 }
-        ensures length { IfOk result (λ n. n
-            ≡ length (own_pieces (M.marks marks.now) items.now node.now.label).before) }
         ensures laid { OnOk result (self.new ≡ with_instrs
             (own_pieces (M.marks marks.now) items.now node.now.label).before self.old) }
         ensures counted { OnOk result (Emits (length (own_pieces (M.marks marks.now) items.now node.now.label).before)
@@ -320,17 +313,17 @@ impl<W: Work> Laid<W> {
         ensures counts { EmitsAtMost (length (own_pieces (M.marks marks.now) items.now node.now.label).before)
             (W.counts work.old) (W.counts work.new) }
     {
-        let start = self.length();
         lay_before(alloc, node, marks, items, &mut self.draft, work);
-        let Ok(end) = self.draft.end() else {
+        let Ok(_) = self.draft.end() else {
             return Err(OutOfMemory);
         };
-        Ok(end - start)
+        Ok(())
     }
 
     /// Lays the rest of a node's code in that of the program, behind the nodes inside it, with the jump back.
     fn lay_rest<M: Marked>(
         &mut self,
+        alloc: Global,
         node: &Node,
         marks: &M,
         back: Option<Instr>,
@@ -344,7 +337,7 @@ impl<W: Work> Laid<W> {
         ensures counts { EmitsAtMost (length ((own_pieces (M.marks marks.now) [] node.now.label).behind
             ++ option_to_list (option_map plain_instr back))) (W.counts work.old) (W.counts work.new) }
     {
-        lay_behind(node, marks, &mut self.draft, work);
+        lay_behind(alloc, node, marks, &mut self.draft, work);
         lay_jump(back, &mut self.draft, work);
         let Ok(_) = self.draft.end() else {
             return Err(OutOfMemory);

@@ -36,7 +36,7 @@ pub(crate) fn lay_before<W: Work, O: InstrOut<W>, M: Marked>(
         NodeKind::StatementHole => lay_alone(node.slot(), Instr::SuspendPlaceholder, out, work),
         NodeKind::ProcedureHole => {}
         NodeKind::Main => lay_items_of(items, &[], out, work),
-        NodeKind::Assign => lay_first(alloc, node, stop, out, work),
+        NodeKind::Assign => lay_first(alloc, node, 0, stop, out, work),
         NodeKind::Filled(template) => {
             lay_template(alloc, node, template, stop, items, out, work);
         }
@@ -62,15 +62,16 @@ fn lay_template<W: Work, O: InstrOut<W>>(
         Template::Fixed => {}
         Template::Bit => {}
         Template::Char => {}
-        Template::If => lay_first(alloc, node, stop, out, work),
-        Template::IfElse => lay_first(alloc, node, stop, out, work),
-        Template::While => lay_first(alloc, node, stop, out, work),
+        Template::If => lay_first(alloc, node, 0, stop, out, work),
+        Template::IfElse => lay_first(alloc, node, 0, stop, out, work),
+        Template::While => lay_first(alloc, node, 0, stop, out, work),
         Template::For => lay_enter(alloc, node, stop, out, work),
+        Template::Until => {}
         Template::Group => {}
         Template::Get => lay_get(alloc, node, stop, out, work),
         Template::Put => lay_put(alloc, node, stop, false, out, work),
         Template::PutSkip => lay_put(alloc, node, stop, true, out, work),
-        Template::Call => lay_first(alloc, node, stop, out, work),
+        Template::Call => lay_first(alloc, node, 0, stop, out, work),
         Template::Return => lay_alone(node.slot(), Instr::Leave, out, work),
         Template::Comment => {}
         Template::Proc => lay_items_of(items, &[], out, work),

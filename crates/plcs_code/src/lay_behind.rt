@@ -8,14 +8,16 @@ ghost use Rattle.plcs_code.specs.Private.PlainHalt.{plain_halt};
 
 use crate::instr::Instr;
 use crate::instr_out::InstrOut;
-use crate::lay_pieces::begin;
+use crate::lay_pieces::{begin, lay_first};
 use crate::suspension::{Halt, first_suspension};
 use plcs_base::{Marked, Place, Point, Slot, Work};
 use plcs_grammar::{NodeKind, Template};
+use std::alloc::Global;
 use template_tree::Node;
 
 /// Lays what stands in the own code of a node behind that of the nodes inside it, but for its jump.
 pub(crate) fn lay_behind<W: Work, O: InstrOut<W>, M: Marked>(
+    alloc: Global,
     node: &Node,
     marks: &M,
     out: &mut O,
@@ -32,13 +34,21 @@ pub(crate) fn lay_behind<W: Work, O: InstrOut<W>, M: Marked>(
         NodeKind::Main => lay_end(node.slot(), out, work),
         NodeKind::Assign => {}
         NodeKind::Filled(template) => {
-            lay_template(node, template, first_suspension(node, marks), out, work);
+            lay_template(
+                alloc,
+                node,
+                template,
+                first_suspension(node, marks),
+                out,
+                work,
+            );
         }
     }
 }
 
 /// Lays what stands in the own code of a node of the template behind that of the nodes inside it.
 fn lay_template<W: Work, O: InstrOut<W>>(
+    alloc: Global,
     node: &Node,
     template: Template,
     stop: Option<Halt>,
@@ -57,6 +67,7 @@ fn lay_template<W: Work, O: InstrOut<W>>(
         Template::IfElse => {}
         Template::While => {}
         Template::For => lay_iteration(node.slot(), stop, out, work),
+        Template::Until => lay_first(alloc, node, 1, stop, out, work),
         Template::Group => {}
         Template::Get => {}
         Template::Put => {}

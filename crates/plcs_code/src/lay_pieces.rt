@@ -59,18 +59,19 @@ fn lay_part<W: Work, O: InstrOut<W>>(
     }
 }
 
-/// Lays a piece of the first part alone: that of an assignment, a condition or a call.
+/// Lays a piece of the first part alone at a point of the slot: that of an assignment, a condition or a call.
 pub(crate) fn lay_first<W: Work, O: InstrOut<W>>(
     alloc: Global,
     node: &Node,
+    point: u16,
     stop: Option<Halt>,
     out: &mut O,
     work: &mut W,
 )
-    ensures { LaysAll O.lays out.old (W.counts work.old) (first_piece node.now.label.slot
+    ensures { LaysAll O.lays out.old (W.counts work.old) (first_piece node.now.label.slot point
         (option_map plain_halt stop) node.now.label.parts) out.new (W.counts work.new) }
 {
-    if begin(node.slot(), 0, stop, out, work) {
+    if begin(node.slot(), point, stop, out, work) {
         lay_part(alloc, node, 0, out, work);
     }
 }

@@ -9,6 +9,7 @@ ghost use Rattle.template_tree.specs.Programs.Slots.{count};
 ghost use Rattle.template_tree.specs.Programs.Tree.{IsTree};
 ghost use Rattle.plcs_code.specs.BlockLimit.{most_instrs};
 ghost use Rattle.plcs_code.specs.Gen.{length_around, node_lengths, own_length};
+ghost use Rattle.plcs_code.specs.Pieces.{count_pieces, pieces};
 ghost use Rattle.plcs_code.specs.Private.LaidCode.{listed_lengths};
 
 use crate::instr_out::Tally;
@@ -22,11 +23,12 @@ use std::alloc::Global;
 use std::marker::Model;
 use template_tree::{Node, Tree, items_are_nodes, path_of_item};
 
-/// How long the code of a node is, and how long are the codes inside it: that of the first node, and those of
-/// the others together.
+/// How long the code of a node is, how long are its own pieces together, and how long the codes inside it: that of
+/// the first node, and those of the others together.
 #[derive(Clone, Copy)]
 pub(crate) struct NodeLength {
     pub(crate) whole: u32,
+    pub(crate) pieces: u32,
     pub(crate) first: u32,
     pub(crate) others: u32,
 }
@@ -149,11 +151,12 @@ impl Lengths {
         let Ok(own) = own_length(alloc, node, marks, scope, work) else {
             return Err(OutOfMemory);
         };
-        let Ok(whole) = sum_within(own, inside) else {
+        let Ok(whole) = sum_within(own.whole, inside) else {
             return Err(OutOfMemory);
         };
         let Ok(()) = self.push(NodeLength {
             whole,
+            pieces: own.pieces,
             first,
             others,
         }) else {
@@ -173,6 +176,13 @@ impl Lengths {
     }
 }
 
+/// How long the own code of a node is, and how long its pieces are together, without its jumps.
+#[derive(Clone, Copy)]
+struct OwnLength {
+    whole: u32,
+    pieces: u32,
+}
+
 /// How many instructions the own code of a node has, counted ahead.
 fn own_length<W: Work, M: Marked, D: Scope>(
     alloc: Global,
@@ -180,10 +190,13 @@ fn own_length<W: Work, M: Marked, D: Scope>(
     marks: &M,
     scope: &D,
     work: &mut W,
-) -> Result<u32, OutOfMemory>
+) -> Result<OwnLength, OutOfMemory>
     requires few { length node.now.label.parts < 256 }
-    ensures length { IfOk result (λ n. n ≡ own_length (M.marks marks.now) (D.items scope.now) node.now.label) }
-    ensures short { IfOk result (λ n. n ≤ most_instrs) }
+    ensures length { IfOk result (λ own. own.whole
+        ≡ own_length (M.marks marks.now) (D.items scope.now) node.now.label) }
+    ensures pieces { IfOk result (λ own. own.pieces
+        ≡ count_pieces (pieces (M.marks marks.now) (D.items scope.now) node.now.label)) }
+    ensures short { IfOk result (λ own. own.whole ≤ most_instrs) }
     ensures uncounted { CountsNothing (W.counts work.old) (W.counts work.new) }
 {
     let Ok(items) = procedure_items(alloc, scope, node) else {
@@ -193,11 +206,17 @@ fn own_length<W: Work, M: Marked, D: Scope>(
     let mut tally = Tally::new();
     lay_before(alloc, node, marks, &items, &mut tally, work);
     drop(items);
+    lay_behind(alloc, node, marks, &mut tally, work);
+    let Ok(pieces) = tally.end() else {
+        return Err(OutOfMemory);
+    };
     lay_jump(jumps.ahead, &mut tally, work);
     lay_jump(jumps.between, &mut tally, work);
-    lay_behind(node, marks, &mut tally, work);
     lay_jump(jumps.back, &mut tally, work);
-    tally.end()
+    let Ok(whole) = tally.end() else {
+        return Err(OutOfMemory);
+    };
+    Ok(OwnLength { whole, pieces })
 }
 
 /// The sum of two lengths of codes that are counted ahead, unless code of that length would be too long.

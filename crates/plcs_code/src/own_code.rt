@@ -8,7 +8,7 @@ ghost use Rattle.plcs_code.specs.BlockLimit.{most_instrs};
 ghost use Rattle.plcs_code.specs.Counts.{Emits, EmitsAtMost};
 ghost use Rattle.plcs_code.specs.ExprCode.{counter_name};
 ghost use Rattle.plcs_code.specs.OwnCode.{jumps_around, name_to_call, no_own_code, own_code_by};
-ghost use Rattle.plcs_code.specs.Pieces.{own_pieces, pieces, suspension};
+ghost use Rattle.plcs_code.specs.Pieces.{count_pieces, own_pieces, pieces, suspension};
 ghost use Rattle.plcs_code.specs.PlainInstr.{plain_instr};
 ghost use Rattle.plcs_code.specs.Private.PlainJumps.{plain_jumps};
 
@@ -186,7 +186,7 @@ impl<W: Work> OwnCode<W> {
         others: u32,
         work: &mut W,
     ) -> Result<JumpBlocks<W>, OutOfMemory>
-        requires short { length self.now.pieces.before + first + others + 2 ≤ most_instrs }
+        requires short { count_pieces self.now.pieces + first + others + 2 ≤ most_instrs }
         ensures ahead { IfOk result (λ jumps. jumps.ahead
             ≡ option_to_list (jumps_around self.now first others).ahead) }
         ensures between { IfOk result (λ jumps. jumps.between
@@ -200,14 +200,14 @@ impl<W: Work> OwnCode<W> {
             + (length (option_to_list jumps.between) + length (option_to_list jumps.back)))
             (W.counts work.old) (W.counts work.new) }
     {
-        let before = self.before.length();
+        let own = self.before.length() + self.behind.length();
         let jumps = kind_jumps(
             self.slot,
             self.kind,
             self.counter(),
             self.all_stopped,
             self.one_stopped,
-            before,
+            own,
             first,
             others,
         );
@@ -364,7 +364,7 @@ fn block_behind<W: Work, M: Marked>(
         (W.counts work.old) (W.counts work.new) }
 {
     let mut draft = Draft::new(alloc);
-    lay_behind(node, marks, &mut draft, work);
+    lay_behind(alloc, node, marks, &mut draft, work);
     draft.into_whole()
 }
 

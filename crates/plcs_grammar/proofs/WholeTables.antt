@@ -17,6 +17,7 @@ template_listed Template.If = refl
 template_listed Template.IfElse = refl
 template_listed Template.While = refl
 template_listed Template.For = refl
+template_listed Template.Until = refl
 template_listed Template.Group = refl
 template_listed Template.Get = refl
 template_listed Template.Put = refl

@@ -125,6 +125,10 @@ template_row Template.For =
     ∷ PlainSegment.words (codes " TO ") ∷ PlainSegment.part Category.Expression
     ∷ PlainSegment.words (codes " BY ") ∷ PlainSegment.part Category.Expression
     ∷ PlainSegment.words (codes ";") ∷ [])
+template_row Template.Until =
+    loop_row (codes "until")
+    (PlainSegment.words (codes "DO UNTIL ( ")
+    ∷ PlainSegment.part Category.Condition ∷ PlainSegment.words (codes " );") ∷ [])
 template_row Template.Group = loop_row (codes "group") (PlainSegment.words (codes "DO;") ∷ [])
 template_row Template.Get =
     simple_row (codes "get")
@@ -158,7 +162,7 @@ template_row Template.ProcP =
 abbrev pub templates : List Template
 templates =
     Template.Fixed ∷ Template.Bit ∷ Template.Char ∷ Template.If ∷ Template.IfElse ∷ Template.While ∷ Template.For
-    ∷ Template.Group ∷ Template.Get ∷ Template.Put ∷ Template.PutSkip ∷ Template.Call ∷ Template.Return
+    ∷ Template.Until ∷ Template.Group ∷ Template.Get ∷ Template.Put ∷ Template.PutSkip ∷ Template.Call ∷ Template.Return
     ∷ Template.Comment ∷ Template.Proc ∷ Template.ProcP ∷ []
 
 -- whether the word is that of the command of a row of the table of templates, if the row has one

@@ -86,7 +86,7 @@ fn is_command(word: &[u8], command: Option<&[u8]>) -> bool
 }
 
 /// All templates, in the order of the table.
-const TEMPLATES: [Template; 16] = [
+const TEMPLATES: [Template; 17] = [
     Template::Fixed,
     Template::Bit,
     Template::Char,
@@ -94,6 +94,7 @@ const TEMPLATES: [Template; 16] = [
     Template::IfElse,
     Template::While,
     Template::For,
+    Template::Until,
     Template::Group,
     Template::Get,
     Template::Put,
@@ -130,6 +131,7 @@ impl Template {
             Template::IfElse => &IF_ELSE,
             Template::While => &WHILE,
             Template::For => &FOR,
+            Template::Until => &UNTIL,
             Template::Group => &GROUP,
             Template::Get => &GET,
             Template::Put => &PUT,
@@ -292,6 +294,19 @@ static FOR: Row = Row {
         Segment::Words(b" BY "),
         Segment::Part(Category::Expression),
         Segment::Words(b";"),
+    ],
+    sections: &[LIST_OF_STATEMENTS],
+    last: CLOSING,
+};
+
+/// The row of the template for a loop that tests its condition behind what is inside.
+static UNTIL: Row = Row {
+    sort: Sort::Statement,
+    command: Some(b"until"),
+    line: &[
+        Segment::Words(b"DO UNTIL ( "),
+        Segment::Part(Category::Condition),
+        Segment::Words(b" );"),
     ],
     sections: &[LIST_OF_STATEMENTS],
     last: CLOSING,

@@ -16,6 +16,8 @@ pub enum Template {
     While,
     /// A loop that counts.
     For,
+    /// A loop until a condition holds, which is tested behind the statements inside.
+    Until,
     /// Statements done in turn.
     Group,
     /// A read of variables.

@@ -218,15 +218,15 @@ module _ (code : PlainCode) (rest : List ℕ) (c : PlainConfiguration)
 
   pub tests_run : (e : PlainExpr) (inside other : PlainPlace) (d : ℤ) (n address next target : ℕ)
       → HasAt code.instrs address (expr_instrs e ++ (PlainInstr.jump_false d ∷ [])) → next ≡ address + (length (expr_instrs e) + 1)
-      → pos target ≡ pos next +ℤ d → next ≤ target
-      → Lands code.instrs next inside → Lands code.instrs target other → length code.instrs ≤ address + n → length (canon e) ≤ 400
+      → pos target ≡ pos next +ℤ d
+      → Lands code.instrs next inside → (beside : Lands code.instrs target other) → next + beside.jumps < length code.instrs
+      → length code.instrs ≤ address + n → length (canon e) ≤ 400
       → Meets (answer code rest c n address [] []) (step_answer c (test_going c.frames e inside other))
-  tests_run e inside other d n address next target has end goes ahead within beside enough short =
+  tests_run e inside other d n address next target has end goes within beside less enough short =
       let own = expr_instrs e in
       let instr = PlainInstr.jump_false d in
       let at : ℕ = address + length own in
       let few = within.few in
-      let less = beside.few in
       let (m, fuel) = split (length own + 1) n (omega (arith, few, end, enough)) in
       meets_by (answer code rest c n address [] []) (after (expression_value c.frames e) (λ value. answer code rest c (suc m) at (value ∷ []) []))
       (step_answer c (test_going c.frames e inside other))
@@ -236,7 +236,7 @@ module _ (code : PlainCode) (rest : List ℕ) (c : PlainConfiguration)
       (meets_after (expression_value c.frames e) (λ value. answer code rest c (suc m) at (value ∷ []) [])
       (λ value. step_answer c (on_bit (λ b. Outcome.gives (Act.pass, if b then inside else other)) value))
       (λ value is. tested value inside other d m at next target ((has_second code.instrs address at own (instr ∷ []) refl has).0) (omega (arith, end)) goes within beside
-      (omega (arith, few, end, fuel, enough)) (omega (arith, less, ahead, end, fuel, enough))))
+      (omega (arith, few, end, fuel, enough)) (omega (arith, less, end, fuel, enough))))
 
   -- ---- loops
 

@@ -24,7 +24,7 @@ use Rattle.template_tree.specs.Programs.Part.{part_at}
 use Rattle.plcs_code.specs.ExprCode.{counter_name}
 use Rattle.plcs_code.specs.declared.heading_entry.HeadingEntry.{HeadingEntry}
 use Rattle.plcs_code.specs.Gen.{Gen, codes_around, has_code, node_codes, node_lengths}
-use Rattle.plcs_code.specs.Pieces.{cell_instr, first_length, jumps, kind_jumps, kind_pieces, other_lengths, parameters_instrs, pieces, suspension}
+use Rattle.plcs_code.specs.Pieces.{cell_instr, count_pieces, first_length, jumps, kind_jumps, kind_pieces, other_lengths, parameters_instrs, pieces, suspension}
 use Rattle.plcs_code.specs.PlainInstr.{PlainInstr}
 use Rattle.plcs_store.specs.Spot.{Callee, callee_named, callee_of, callee_with}
 use Rattle.plcs_machine.proofs.CalledFrames.{called_added}
@@ -176,8 +176,8 @@ record Headed (kind : NodeKind) (parts : List (Option PlainPhrase)) (heading : H
   sections : (row_of kind).sections ≡ procedure_sections
   before : (slot : ℕ) (all one : Option PlainInstr) (its : List Declared)
       → (kind_pieces slot all one parts its kind).before ≡ parameters_instrs its [] heading.parameters ++ flat_map (cell_instr heading.parameters) its
-  ahead : (slot : ℕ) (counter : Option (List ℕ)) (all one : Bool) (before first others : ℕ)
-      → option_to_list (kind_jumps slot counter all one before first others kind).ahead ≡ []
+  ahead : (slot : ℕ) (counter : Option (List ℕ)) (all one : Bool) (own first others : ℕ)
+      → option_to_list (kind_jumps slot counter all one own first others kind).ahead ≡ []
 
 with_is : (name : Option (List ℕ)) (parameters : Option (List (List ℕ))) (heading : Heading) → heading_with name parameters ≡ Some heading → parameters ≡ Some heading.parameters
 with_is None parameters heading e = absurd (none-some heading e)
@@ -191,7 +191,7 @@ headed_is (NodeKind.Filled Template.Proc) parts heading e =
       code = refl;
       sections = refl;
       before = λ slot all one its. ap (λ (l : List (List ℕ)). parameters_instrs its [] l ++ flat_map (cell_instr l) its) none;
-      ahead = λ slot counter all one before first others. refl;
+      ahead = λ slot counter all one own first others. refl;
     }
 headed_is (NodeKind.Filled Template.ProcP) parts heading e =
     let given : parameters_given parts ≡ Some heading.parameters = with_is (name_given parts) (parameters_given parts) heading e in
@@ -201,7 +201,7 @@ headed_is (NodeKind.Filled Template.ProcP) parts heading e =
       before =
           λ slot all one its.
           ap (λ (o : Option (List (List ℕ))). parameters_instrs its [] (unwrap_or o []) ++ flat_map (cell_instr (unwrap_or o [])) its) given;
-      ahead = λ slot counter all one before first others. refl;
+      ahead = λ slot counter all one own first others. refl;
     }
 headed_is (NodeKind.Filled other) parts heading e = absurd (none-some heading e)
 headed_is other parts heading e = absurd (none-some heading e)
@@ -241,7 +241,7 @@ module _ (laws : CodeLawsHold) (marks : MarkMap) (items : ItemMap) (program : Fo
       let ahead : length (option_to_list (jumps marks items node.label (node_lengths marks items node.inner)).ahead) ≡ 0 =
       ap length
       (headed.ahead node.label.slot (counter_name (part_at node.label.parts 0)) (is_some (suspension marks node.label.slot node.label.parts))
-      (is_some (suspension marks node.label.slot (take 1 node.label.parts))) (length (pieces marks items node.label).before) (first_length (node_lengths marks items node.inner))
+      (is_some (suspension marks node.label.slot (take 1 node.label.parts))) (count_pieces (pieces marks items node.label)) (first_length (node_lengths marks items node.inner))
       (other_lengths (node_lengths marks items node.inner))) in
       let fill : Fill procedure_sections (sorts node.inner) =
       subst (λ (l : List PlainSection). Fill l (sorts node.inner)) headed.sections own.node.inner in

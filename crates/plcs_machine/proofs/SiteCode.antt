@@ -23,7 +23,7 @@ use Rattle.plcs_code.specs.CodeLaws.{CallsComeBack, EntriesAreHeadings, EntriesB
 use Rattle.plcs_code.specs.ExprCode.{counter_name}
 use Rattle.plcs_code.specs.Gen.{Gen, code_around, code_with, codes_around, codes_joined, has_code, is_call, length_around, node_codes, node_lengths}
 use Rattle.plcs_code.specs.Landing.{BodiesBegin, Lands, SecondBodiesBegin, StatementsGoOn, StepsHaveAddresses, length_before}
-use Rattle.plcs_code.specs.Pieces.{CodeJumps, CodePieces, first_length, kind_jumps, kind_pieces, other_lengths}
+use Rattle.plcs_code.specs.Pieces.{CodeJumps, CodePieces, count_pieces, first_length, kind_jumps, kind_pieces, other_lengths}
 use Rattle.plcs_code.specs.PlainInstr.{PlainInstr, place_of}
 use Rattle.plcs_machine.proofs.StandingCode.{HasAt, has_at}
 
@@ -47,7 +47,7 @@ module _ (slot : ℕ) (its : List Declared) (codes : List (List PlainInstr)) whe
 
   abbrev pub around_of : NodeKind → List (Option PlainPhrase) → (all one : Option PlainInstr) → CodeJumps
   around_of kind parts all one =
-      kind_jumps slot (counter_name (part_at parts 0)) (is_some all) (is_some one) (length (own_of kind parts all one).before)
+      kind_jumps slot (counter_name (part_at parts 0)) (is_some all) (is_some one) (count_pieces (own_of kind parts all one))
       (first_length (map length codes)) (other_lengths (map length codes)) kind
 
   abbrev pub code_of : NodeKind → List (Option PlainPhrase) → (all one : Option PlainInstr) → List PlainInstr

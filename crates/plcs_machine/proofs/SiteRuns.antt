@@ -28,7 +28,7 @@ use Rattle.plcs_code.specs.CodeLaws.{LengthsAreTold, ends_step}
 use Rattle.plcs_code.specs.ExprCode.{arguments_instrs, expr_count, expr_instrs, exprs_instrs, index_instrs, items_instrs, listed_exprs, listed_instrs, variable_instr}
 use Rattle.plcs_code.specs.Gen.{Gen, PlainCode, code_around, code_with, codes_around, is_call, length_around, node_codes, node_lengths}
 use Rattle.plcs_code.specs.Landing.{Lands, length_before}
-use Rattle.plcs_code.specs.Pieces.{first_length, jumps, no_jumps, one_piece, other_lengths, piece_at, pieces, suspension}
+use Rattle.plcs_code.specs.Pieces.{count_pieces, first_length, jumps, no_jumps, one_piece, other_lengths, piece_at, pieces, suspension}
 use Rattle.plcs_code.specs.PlainInstr.{PlainInstr, place_of}
 use Rattle.plcs_store.specs.declared.reason.Reason.{Reason}
 use Rattle.plcs_store.specs.CellAt.{located}
@@ -364,12 +364,13 @@ module _ (told : LengthsAreTold) (marks : MarkMap) (items : ItemMap) (program : 
       let own = expr_instrs e in
       let jump = PlainInstr.jump_false (pos d) in
       let later = has_second instrs (start + 1) (start + 1 + length own) own (jump ∷ behind) refl has.1 in
+      let less = beside.few in
       let next : ℕ = start + (length own + 2) in (
         start,
         its.addressed 0 start (ap (λ (k : NodeKind). ends_step k 0) is ∙ ends) has.0,
         tests_run code rest c reach e inside other (pos d) (length instrs) (start + 1) next (next + d)
             (has_both instrs (start + 1) (start + 1 + length own) own (jump ∷ []) refl (has_first instrs (start + 1) own (jump ∷ behind) has.1) (later.0, tt))
-            (omega arith) (omega (arith, ints)) (omega arith) (lands_here instrs next inside within) beside (omega arith) short,
+            (omega arith) (omega (arith, ints)) (lands_here instrs next inside within) beside (omega (arith, less)) (omega arith) short,
       )
 
   condition_part : (label.kind ≡ NodeKind.Filled Template.If) ⊎ ((label.kind ≡ NodeKind.Filled Template.IfElse) ⊎ (label.kind ≡ NodeKind.Filled Template.While))
@@ -612,6 +613,60 @@ module _ (told : LengthsAreTold) (marks : MarkMap) (items : ItemMap) (program : 
           subst (RunsAt (place_at slot 1))
           (same_Some (Spot.halts why) spot
           (ap (λ (r : Option Reason). option_or (option_map Spot.halts r) (iteration_spot slot (a ∷ (b ∷ (d ∷ (e ∷ [])))) (begin inner (place_at slot 1)) found.after)) (sym reason) ∙ need))
+          (halting instr why at 1 halts (ap (λ (k : NodeKind). ends_step k 1) is) has.0 has.1.0)
+
+  -- ---- an Until
+
+  pub until_runs : (spot : Spot) → label.kind ≡ NodeKind.Filled Template.Until
+      → needing (mark_of marks slot) label.parts (0 ∷ []) (test_spot label.parts found.after (begin inner (place_at slot 1))) ≡ Some spot
+      → RunsAt (place_at slot 1) spot
+  until_runs spot is want =
+      let (part, parts, fits) = one_part Category.Condition label.parts (subst (λ (k : NodeKind). AreParts (parts_of (row_of k).line) label.parts) is node.parts) in
+      by part parts fits
+      (ap (λ (l : List (Option PlainPhrase)). needing (mark_of marks slot) l (0 ∷ []) (test_spot l found.after (begin inner (place_at slot 1)))) (sym parts) ∙ want)
+      (first_stops marks slot part)
+    where
+      spot_is : (part : Option PlainPhrase) → IsPart Category.Condition part → StandsAs (NodeKind.Filled Template.Until) (part ∷ []) None None
+          → test_spot (part ∷ []) found.after (begin inner (place_at slot 1)) ≡ Some spot → RunsAt (place_at slot 1) spot
+      spot_is None fits stands want = absurd (none-some spot want)
+      spot_is (Some (PlainPhrase.condition test)) fits stands want =
+          let parts = Some (PlainPhrase.condition test) ∷ [] in
+          let own = own_of slot declared codes (NodeKind.Filled Template.Until) parts None None in
+          let around = around_of slot declared codes (NodeKind.Filled Template.Until) parts None None in
+          let at : ℕ = start + length own.before + length (option_to_list around.ahead) + length (codes_around [] codes) in
+          let has = end_has (NodeKind.Filled Template.Until) parts None None stands in
+          let long = with_length own around codes in
+          let within = inside_length [] codes in
+          let some = filled_begins Sort.Statement [] (sorts inner) refl (fill_as (NodeKind.Filled Template.Until) is) in
+          let target : ℕ = start + (length own.before + length (option_to_list around.ahead)) in
+          let next : ℕ = at + 1 + (length (expr_instrs test) + 1) in
+          let beside : Lands instrs next found.after = subst (λ (n : ℕ). Lands instrs n found.after) (omega (arith, long)) (stands.ends refl) in
+          let few = beside.few in
+          subst (RunsAt (place_at slot 1)) (same_Some (Spot.tests test found.after (begin inner (place_at slot 1))) spot want) (
+            at,
+            its.addressed 1 at (ap (λ (k : NodeKind). ends_step k 1) is) has.0,
+            tests_run code rest c reach test found.after (begin inner (place_at slot 1)) (neg_ℤ (pos (count_pieces own + inner_sum + 1))) (length instrs) (at + 1) next target
+                has.1 refl (omega (arith, ints, within)) beside (lands_here instrs target (begin inner (place_at slot 1)) (stands.begins (place_at slot 1) some)) (omega (arith, few))
+                (omega arith) fits.short,
+          )
+      spot_is (Some other) fits stands want = absurd (none-some spot want)
+
+      by : (part : Option PlainPhrase) → label.parts ≡ part ∷ [] → IsPart Category.Condition part
+          → needing (mark_of marks slot) (part ∷ []) (0 ∷ []) (test_spot (part ∷ []) found.after (begin inner (place_at slot 1))) ≡ Some spot
+          → Stops (suspension marks slot (part ∷ [])) (halt_reason (mark_of marks slot) (part ∷ []) (0 ∷ []))
+          → RunsAt (place_at slot 1) spot
+      by part parts fits need (inl (stop, none)) =
+          spot_is part fits (stands_as (NodeKind.Filled Template.Until) (part ∷ []) None None is parts stop stop)
+          (ap (λ (r : Option Reason). option_or (option_map Spot.halts r) (test_spot (part ∷ []) found.after (begin inner (place_at slot 1)))) (sym none) ∙ need)
+      by part parts fits need (inr (instr, why, stop, reason, halts)) =
+          let stands = stands_as (NodeKind.Filled Template.Until) (part ∷ []) (Some instr) (Some instr) is parts stop stop in
+          let own = own_of slot declared codes (NodeKind.Filled Template.Until) (part ∷ []) (Some instr) (Some instr) in
+          let around = around_of slot declared codes (NodeKind.Filled Template.Until) (part ∷ []) (Some instr) (Some instr) in
+          let at : ℕ = start + length own.before + length (option_to_list around.ahead) + length (codes_around [] codes) in
+          let has = end_has (NodeKind.Filled Template.Until) (part ∷ []) (Some instr) (Some instr) stands in
+          subst (RunsAt (place_at slot 1))
+          (same_Some (Spot.halts why) spot
+          (ap (λ (r : Option Reason). option_or (option_map Spot.halts r) (test_spot (part ∷ []) found.after (begin inner (place_at slot 1)))) (sym reason) ∙ need))
           (halting instr why at 1 halts (ap (λ (k : NodeKind). ends_step k 1) is) has.0 has.1.0)
 
   -- ---- a GET

@@ -27,7 +27,7 @@ use Rattle.template_tree.specs.Programs.Slots.{first_slot}
 use Rattle.plcs_code.specs.Gen.{Gen, codes_around, codes_joined, has_code, length_around, node_codes, node_lengths, node_spans, span_by_slot}
 use Rattle.plcs_code.specs.Landing.{BodiesBegin, length_before}
 use Rattle.plcs_code.specs.declared.node_span.NodeSpan.{NodeSpan}
-use Rattle.plcs_code.specs.Pieces.{CodeJumps, CodePieces, cell_instr, first_length, jumps, other_lengths, own_jumps, own_pieces, pieces}
+use Rattle.plcs_code.specs.Pieces.{CodeJumps, CodePieces, cell_instr, count_pieces, first_length, jumps, other_lengths, own_jumps, own_pieces, pieces}
 use Rattle.plcs_code.specs.PlainInstr.{PlainInstr}
 use Rattle.plcs_store.specs.CellAt.{Variables, unset_named}
 use Rattle.plcs_store.specs.Configuration.{PlainConfiguration}
@@ -159,7 +159,7 @@ module _ (marks : MarkMap) (items : ItemMap) (label : Label) (inner rest : Fores
 
   nothing_ahead : (lengths : List ℕ) → option_to_list (jumps marks items label lengths).ahead ≡ []
   nothing_ahead lengths =
-      ap (λ (k : NodeKind). option_to_list (own_jumps marks (let l : Label = record label { kind = k } in l) (length own.before) (first_length lengths) (other_lengths lengths)).ahead) kind
+      ap (λ (k : NodeKind). option_to_list (own_jumps marks (let l : Label = record label { kind = k } in l) (count_pieces own) (first_length lengths) (other_lengths lengths)).ahead) kind
 
   cells_first : (place : PlainPlace) → slice_get instrs (0 + length_before marks items label inner) ≡ Some (PlainInstr.place place)
       → (more : List PlainInstr) × (instrs ≡ flat_map (cell_instr []) its ++ (PlainInstr.place place ∷ more))

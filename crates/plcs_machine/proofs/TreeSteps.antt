@@ -28,7 +28,7 @@ use Rattle.plcs_store.specs.CellAt.{located, newest}
 use Rattle.plcs_store.specs.Configuration.{PlainConfiguration, frame_place, top_place}
 use Rattle.plcs_store.specs.Fits.{Fits}
 use Rattle.plcs_store.specs.Limit.{most_frames, most_loops}
-use Rattle.plcs_store.specs.Spot.{Spot, at_one, behind_item, callee_named, halt_reason, iteration_spot, get_spot, needing, point_spot, said, site_spot, spot_at, start_spot, template_point, template_start, variable_in, variables_in}
+use Rattle.plcs_store.specs.Spot.{Spot, at_one, behind_item, callee_named, condition_in, halt_reason, iteration_spot, get_spot, needing, point_spot, said, site_spot, spot_at, start_spot, template_point, template_start, test_spot, variable_in, variables_in}
 use Rattle.plcs_store.specs.Step.{PlainStepAnswer, Step, spot_answer}
 use Rattle.plcs_store.specs.StepLaws.{FittingCallersWait, FittingLoopsHaveRoom, FittingRunsStep}
 use Rattle.plcs_machine.specs.Exec.{Exec, run_behind}
@@ -43,7 +43,7 @@ use Rattle.plcs_machine.proofs.RunLeaves.{WaitsLand, leaves_run}
 use Rattle.plcs_machine.proofs.RunSpots.{Meets}
 use Rattle.plcs_machine.proofs.SignedProcedures.{callee_enters}
 use Rattle.plcs_machine.proofs.SiteCode.{CodeLawsHold, IsCodeOf, code_of_site}
-use Rattle.plcs_machine.proofs.SiteRuns.{assign_runs, back_lands, call_runs, for_runs, get_point_runs, get_runs, hole_runs, if_else_runs, if_runs, iteration_runs, main_end, parameters_end, procedure_end, put_runs, read_within, return_address, while_runs}
+use Rattle.plcs_machine.proofs.SiteRuns.{assign_runs, back_lands, call_runs, for_runs, get_point_runs, get_runs, hole_runs, if_else_runs, if_runs, iteration_runs, main_end, parameters_end, procedure_end, put_runs, read_within, return_address, until_runs, while_runs}
 use Rattle.plcs_machine.proofs.Suspensions.{mark_of}
 
 -- ---- spots that don't wait
@@ -92,6 +92,10 @@ template_waits marked found Template.For next e =
     absurd
     (needing_quiet marked found.label.parts (0 ∷ []) (iteration_spot found.label.slot found.label.parts (begin found.inner (place_at found.label.slot 1)) found.after)
     (map_quiet (λ name. Spot.iterates found.label.slot name (begin found.inner (place_at found.label.slot 1)) found.after) (λ name. refl) (said variable_in found.label.parts 0)) next e)
+template_waits marked found Template.Until next e =
+    absurd
+    (needing_quiet marked found.label.parts (0 ∷ []) (test_spot found.label.parts found.after (begin found.inner (place_at found.label.slot 1)))
+    (map_quiet (λ test. Spot.tests test found.after (begin found.inner (place_at found.label.slot 1))) (λ test. refl) (said condition_in found.label.parts 0)) next e)
 template_waits marked found Template.Get next e = absurd (by (marked 0) e)
   where
     by : (b : Bool) → (if b then None else get_spot found 1) ≡ Some (Spot.waits next) → ⊥
@@ -147,6 +151,7 @@ module _ (laws : CodeLawsHold) (program : Forest) (is : IsProgram program) (once
     template_starts spot Template.Fixed kind e = absurd (none-some spot e)
     template_starts spot Template.Bit kind e = absurd (none-some spot e)
     template_starts spot Template.Char kind e = absurd (none-some spot e)
+    template_starts spot Template.Until kind e = absurd (none-some spot e)
     template_starts spot Template.Group kind e = absurd (none-some spot e)
     template_starts spot Template.Comment kind e = absurd (none-some spot e)
     template_starts spot Template.Proc kind e = absurd (none-some spot e)
@@ -199,6 +204,9 @@ module _ (laws : CodeLawsHold) (program : Forest) (is : IsProgram program) (once
     template_points point spot Template.For kind e =
         one_level point spot _ e
         (iteration_runs laws.told (Marks program) items program found (code_is (ap has_code kind)) node (callee_named program) (spot_at program) input c reach spot kind)
+    template_points point spot Template.Until kind e =
+        one_level point spot _ e
+        (until_runs laws.told (Marks program) items program found (code_is (ap has_code kind)) node (callee_named program) (spot_at program) input c reach spot kind)
     template_points point spot Template.Get kind e =
         get_point_runs laws.told (Marks program) items program found (code_is (ap has_code kind)) node (callee_named program) (spot_at program) input c reach point spot kind e
     template_points point spot Template.Call kind e =

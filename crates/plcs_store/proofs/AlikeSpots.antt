@@ -87,6 +87,7 @@ module _ (marked : ℕ → Bool) (callees : List ℕ → Option Callee) (found :
   template_start_same Template.For =
       λ i. needing marked found.label.parts (0 ∷ (1 ∷ (2 ∷ (3 ∷ []))))
       (for_spot found.label.slot found.label.parts (begin_same found.inner (place_at found.label.slot 1) i) found.after)
+  template_start_same Template.Until = refl
   template_start_same Template.Group = refl
   template_start_same Template.Get = refl
   template_start_same Template.Put = refl
@@ -117,6 +118,10 @@ module _ (marked : ℕ → Bool) (callees : List ℕ → Option Callee) (found :
       λ i. at_one point
       (needing marked found.label.parts (0 ∷ [])
       (iteration_spot found.label.slot found.label.parts (begin_same found.inner (place_at found.label.slot 1) i) found.after))
+  template_point_same point Template.Until =
+      λ i. at_one point
+      (needing marked found.label.parts (0 ∷ [])
+      (test_spot found.label.parts found.after (begin_same found.inner (place_at found.label.slot 1) i)))
   template_point_same point Template.Group = refl
   template_point_same point Template.Get = refl
   template_point_same point Template.Put = refl

@@ -1,6 +1,6 @@
 -- A run begins in main at a node that doesn't pass it on, in no loop.
--- Behind its declarations a procedure has a statement; only groups and comments pass a run on, to a list of statements,
--- and these are no loops.
+-- Behind its declarations a procedure has a statement; only a group, a comment and an Until pass a run on, to a list of
+-- statements, and these are no loops that a run keeps.
 use Rattle.std.specs.Prelude.{◌≡◌, refl, ℕ, ◌<◌, ◌≤◌, ◌||◌, Bool, true, false, if◌then◌else◌, List, [], ◌∷◌, ◌++◌, length, slice_index_or}
 use Rattle.std.proofs.Common.{ap, sym, ◌∙◌, arith, append-nil, inl, inr}
 use Rattle.std.proofs.Math.Bool.{false≢true}
@@ -45,6 +45,7 @@ procedure_begins items (own, others, same, are, rest) = ap begins_among same ∙
 
 template_begins : (template : Template) (items : List Sort) → passes_in (NodeKind.Filled template) ≡ true
     → Fill (row_of (NodeKind.Filled template)).sections items → begins_among items ≡ true
+template_begins Template.Until items e fill = filled_begins Sort.Statement [] items refl fill
 template_begins Template.Group items e fill = filled_begins Sort.Statement [] items refl fill
 template_begins Template.Comment items e fill = filled_begins Sort.Statement [] items refl fill
 template_begins other items e fill = absurd (false≢true e)
@@ -56,6 +57,7 @@ kind_begins other items e fill = absurd (false≢true e)
 -- ---- what passes a run on is no loop
 
 template_no_loop : (template : Template) (slot : ℕ) → passes_in (NodeKind.Filled template) ≡ true → loop_by_kind (NodeKind.Filled template) slot ≡ []
+template_no_loop Template.Until slot e = refl
 template_no_loop Template.Group slot e = refl
 template_no_loop Template.Comment slot e = refl
 template_no_loop other slot e = absurd (false≢true e)

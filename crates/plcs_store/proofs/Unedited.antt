@@ -50,7 +50,7 @@ same_template program frame template same (inl gone) =
 same_template program frame template same (inr (inl differs)) =
     differs.1 (kind_same (site program frame.place.slot.0) ∙ ap (option_map (λ (held : HeldTemplate). held.kind)) same)
 same_template program frame template same (inr (inr differs)) =
-    differs.1 (parts_same (site program frame.place.slot.0) ∙ ap (option_map (λ (held : HeldTemplate). held.parts)) same)
+    differs.1.1 (parts_same (site program frame.place.slot.0) ∙ ap (option_map (λ (held : HeldTemplate). held.parts)) same)
 
 nothing_asked : (program : Forest) (frames : List Frame) (headings : List Parts) (declared : List (List Declared)) (held : List HeldTemplate)
     → map (λ (frame : Frame). heading_parts program frame.procedure.0) frames ≡ map Some headings

@@ -33,6 +33,7 @@ waits_in_template Template.If point = false
 waits_in_template Template.IfElse point = false
 waits_in_template Template.While point = false
 waits_in_template Template.For point = false
+waits_in_template Template.Until point = false
 waits_in_template Template.Group point = false
 waits_in_template Template.Get point = false
 waits_in_template Template.Put point = false

@@ -1,7 +1,8 @@
 -- When a suspended run may be resumed in a program that was edited.
-use Rattle.std.specs.Prelude.{◌≡◌, ◌≢◌, ◌⊎◌, ℕ, ◌==◌, if◌then◌else◌, List, [], ◌∷◌, map, Option, Some, None, option_map, unwrap_or}
+use Rattle.std.specs.Prelude.{◌≡◌, ◌≢◌, ◌⊎◌, ℕ, ◌==◌, Bool, true, false, if◌then◌else◌, List, [], ◌∷◌, map, Option, Some, None, option_map, unwrap_or}
 use Rattle.plcs_base.specs.declared.declared.Declared.{Declared}
 use Rattle.plcs_grammar.specs.declared.node_kind.NodeKind.{NodeKind}
+use Rattle.plcs_grammar.specs.declared.template.Template.{Template}
 use Rattle.plcs_grammar.specs.PlainPhrase.{PlainPhrase}
 use Rattle.template_tree.specs.Checks.Environment.{Items, procedure_at}
 use Rattle.template_tree.specs.Positions.Place.{PlainPlace, Start, site}
@@ -73,12 +74,45 @@ abbrev pub KindDiffers : (program : Forest) → Frame → HeldTemplate → Type 
 KindDiffers program frame kept =
     (frame.place.point.0 ≢ 0) × (kind_held program frame.place.slot.0 ≢ Some kept.kind)
 
--- the frame's place isn't the start of its slot, and what stands there has other parts
+-- whether a resumption asks that the parts of the template are as they were, where a run stands at another point than
+-- its start: not those of an Until, whose condition is tested as it is by then
+abbrev pub asks_for_template_parts : Template → Bool
+asks_for_template_parts Template.Fixed = true
+asks_for_template_parts Template.Bit = true
+asks_for_template_parts Template.Char = true
+asks_for_template_parts Template.If = true
+asks_for_template_parts Template.IfElse = true
+asks_for_template_parts Template.While = true
+asks_for_template_parts Template.For = true
+asks_for_template_parts Template.Until = false
+asks_for_template_parts Template.Group = true
+asks_for_template_parts Template.Get = true
+asks_for_template_parts Template.Put = true
+asks_for_template_parts Template.PutSkip = true
+asks_for_template_parts Template.Call = true
+asks_for_template_parts Template.Return = true
+asks_for_template_parts Template.Comment = true
+asks_for_template_parts Template.Proc = true
+asks_for_template_parts Template.ProcP = true
+
+-- whether a resumption asks that the parts of a node of the kind are as they were, where a run stands at another point
+-- than its start
+abbrev pub asks_for_parts : NodeKind → Bool
+asks_for_parts NodeKind.DeclarationHole = true
+asks_for_parts NodeKind.StatementHole = true
+asks_for_parts NodeKind.ProcedureHole = true
+asks_for_parts NodeKind.Main = true
+asks_for_parts NodeKind.Assign = true
+asks_for_parts (NodeKind.Filled template) = asks_for_template_parts template
+
+-- the frame's place isn't the start of its slot, and what stands there has other parts than those that it is asked for
 abbrev pub PartsDiffer : (program : Forest) → Frame → HeldTemplate → Type 0
 PartsDiffer program frame kept =
-    (frame.place.point.0 ≢ 0) × (parts_held program frame.place.slot.0 ≢ Some kept.parts)
+    (frame.place.point.0 ≢ 0)
+    × ((asks_for_parts kept.kind ≡ true) × (parts_held program frame.place.slot.0 ≢ Some kept.parts))
 
--- the slot of the frame's place is gone, or what stands there is of another kind or has other parts
+-- the slot of the frame's place is gone, or what stands there is of another kind, or has other parts than those that it
+-- is asked for
 abbrev pub TemplateDiffers : (program : Forest) → Frame → HeldTemplate → Type 0
 TemplateDiffers program frame kept =
     (site program frame.place.slot.0 ≡ None) ⊎ (KindDiffers program frame kept ⊎ PartsDiffer program frame kept)

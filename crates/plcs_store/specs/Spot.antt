@@ -58,7 +58,7 @@ pub data Spot : Type 0 where
   halts : Reason → Spot
   -- a variable is set
   assigns : PlainVarRef → PlainExpr → (next : PlainPlace) → Spot
-  -- a condition is tested
+  -- a condition is tested: where the run goes on if it holds, and where else
   tests : PlainExpr → (inside other : PlainPlace) → Spot
   -- a For is entered: its slot, its variable, the first value, the limit and the step
   begins : (slot : ℕ) → List ℕ → (first limit step : PlainExpr) → (inside after : PlainPlace) → Spot
@@ -189,6 +189,7 @@ template_start marked callees found Template.While =
 template_start marked callees found Template.For =
     needing marked found.label.parts (0 ∷ (1 ∷ (2 ∷ (3 ∷ []))))
     (for_spot found.label.slot found.label.parts (begin found.inner (place_at found.label.slot 1)) found.after)
+template_start marked callees found Template.Until = None
 template_start marked callees found Template.Group = None
 template_start marked callees found Template.Get = needing marked found.label.parts (0 ∷ []) (get_spot found 0)
 template_start marked callees found Template.Put =
@@ -231,6 +232,10 @@ template_point marked found point Template.For =
     at_one point
     (needing marked found.label.parts (0 ∷ [])
     (iteration_spot found.label.slot found.label.parts (begin found.inner (place_at found.label.slot 1)) found.after))
+template_point marked found point Template.Until =
+    at_one point
+    (needing marked found.label.parts (0 ∷ [])
+    (test_spot found.label.parts found.after (begin found.inner (place_at found.label.slot 1))))
 template_point marked found point Template.Group = None
 template_point marked found point Template.Get = if marked 0 then None else get_spot found point
 template_point marked found point Template.Put = None

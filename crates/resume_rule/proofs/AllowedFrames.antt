@@ -1,26 +1,29 @@
 -- `resumed_runs_fit`: what a yes of the rule says of each frame.
-use Rattle.std.specs.Prelude.{◌≡◌, refl, ℕ, zero, suc, List, [], ◌∷◌, map, slice_get, Option, Some, None}
+use Rattle.std.specs.Prelude.{◌≡◌, refl, ℕ, zero, suc, true, List, [], ◌∷◌, map, slice_get, Option, Some, None}
 use Rattle.std.proofs.Common.{ap, sym, ◌∙◌, subst, inl, inr}
 use Rattle.std.proofs.lemmas.Option.{none-some, same_Some}
 use Rattle.plcs_base.specs.declared.declared.Declared.{Declared}
+use Rattle.plcs_grammar.specs.declared.node_kind.NodeKind.{NodeKind}
 use Rattle.template_tree.specs.Checks.Environment.{Items}
 use Rattle.template_tree.specs.Positions.Place.{Site, site}
 use Rattle.template_tree.specs.Programs.PlainTree.{Forest}
 use Rattle.plcs_store.specs.declared.frame.Frame.{Frame}
 use Rattle.plcs_store.specs.declared.held_template.HeldTemplate.{HeldTemplate}
 use Rattle.plcs_store.specs.declared.refusal.ResumeRefusal.{ResumeRefusal}
-use Rattle.plcs_store.specs.Resume.{Asks, AsksFrame, AsksFrames, HeadingDiffers, ItemsDiffer, Parts, TemplateDiffers, kind_held, parts_held, template_held}
+use Rattle.plcs_store.specs.Resume.{Asks, AsksFrame, AsksFrames, HeadingDiffers, ItemsDiffer, Parts, TemplateDiffers, asks_for_parts, kind_held, parts_held, template_held}
 use Rattle.resume_rule.proofs.HeldTemplates.{kind_is, parts_are}
 use Rattle.resume_rule.proofs.SettledEquations.{head_or, items_settled, tail}
 
 -- the rule refuses nothing of a frame that stood in the earlier program: its items are as they were, its slot is live,
--- and at a point other than the start neither the kind of what stands there nor its parts can differ
+-- and at a point other than the start neither the kind of what stands there can differ nor, where it is asked for them,
+-- its parts
 pub record IsAllowed (earlier later : Forest) (frame : Frame) : Type 0 where
   pub items : Items later frame.procedure.0 ≡ Items earlier frame.procedure.0
   pub live : (found : Site) × (site later frame.place.slot.0 ≡ Some found)
   pub kind : (frame.place.point.0 ≡ 0 → ⊥) → ¬ (¬ (kind_held later frame.place.slot.0 ≡ kind_held earlier frame.place.slot.0))
   pub parts :
-      (frame.place.point.0 ≡ 0 → ⊥) → ¬ (¬ (parts_held later frame.place.slot.0 ≡ parts_held earlier frame.place.slot.0))
+      (frame.place.point.0 ≡ 0 → ⊥) → (was : NodeKind) → kind_held earlier frame.place.slot.0 ≡ Some was → asks_for_parts was ≡ true
+      → ¬ (¬ (parts_held later frame.place.slot.0 ≡ parts_held earlier frame.place.slot.0))
 
 -- where a question isn't answered by its refusal, it doesn't hold, and more is asked
 passed : (question : Type 0) (refusal : ResumeRefusal) (more : Option ResumeRefusal → Type 0) → Asks question refusal more None
@@ -55,8 +58,16 @@ allowed_frame earlier later frame items template items_are template_is same_item
           λ other differs.
           same_template (inr (inl (other, λ e. differs (e ∙ sym (kind_is earlier frame.place.slot.0 template template_is)))));
       parts =
-          λ other differs.
-          same_template (inr (inr (other, λ e. differs (e ∙ sym (parts_are earlier frame.place.slot.0 template template_is)))));
+          λ other was stood asked differs.
+          let kind : was ≡ template.kind = same_Some was template.kind (sym stood ∙ kind_is earlier frame.place.slot.0 template template_is) in
+          same_template
+          (inr (inr (
+            other,
+            (
+              sym (ap asks_for_parts kind) ∙ asked,
+              λ e. differs (e ∙ sym (parts_are earlier frame.place.slot.0 template template_is)),
+            ),
+          )));
     }
   where
     by : (got : Option Site) → site later frame.place.slot.0 ≡ got → (found : Site) × (site later frame.place.slot.0 ≡ Some found)

@@ -7,7 +7,7 @@ use Rattle.template_tree.specs.Positions.Place.{Site, site}
 use Rattle.template_tree.specs.Programs.PlainTree.{Forest, Label}
 use Rattle.plcs_store.specs.declared.frame.Frame.{Frame}
 use Rattle.plcs_store.specs.declared.held_template.HeldTemplate.{HeldTemplate}
-use Rattle.plcs_store.specs.Resume.{TemplateDiffers, kind_held, parts_held}
+use Rattle.plcs_store.specs.Resume.{TemplateDiffers, asks_for_parts, kind_held, parts_held}
 
 -- the label in the slot, if it is live
 abbrev label_at : (program : Forest) → (slot : ℕ) → Option Label
@@ -46,12 +46,26 @@ module _ (program : Forest) (frame : Frame) (kept : HeldTemplate) (label : Label
       → IsTrue (not same)
   parts_differ same told kind (inl gone) = absurd (is_gone (site program frame.place.slot.0) label there gone)
   parts_differ same told kind (inr (inl other)) = absurd (other.1 (sym kind_there ∙ ap Some kind))
-  parts_differ true told kind (inr (inr other)) = absurd (other.1 (sym parts_there ∙ ap Some (told.0 refl)))
+  parts_differ true told kind (inr (inr other)) = absurd (other.1.1 (sym parts_there ∙ ap Some (told.0 refl)))
   parts_differ false told kind (inr (inr other)) = refl
 
-  pub parts_tell : (same : Bool) → (IsTrue same ↔ (label.parts ≡ kept.parts)) → label.kind ≡ kept.kind
+  -- where the parts are asked for
+  pub parts_tell : (same : Bool) → (IsTrue same ↔ (label.parts ≡ kept.parts)) → label.kind ≡ kept.kind → asks_for_parts kept.kind ≡ true
       → IsTrue (not same) ↔ TemplateDiffers program frame kept
-  parts_tell same told kind = (
-    λ other. inr (inr (later, λ e. same_not_other same (told.1 (same_Some label.parts kept.parts (parts_there ∙ e))) other)),
+  parts_tell same told kind asked = (
+    λ other. inr (inr (later, (asked, λ e. same_not_other same (told.1 (same_Some label.parts kept.parts (parts_there ∙ e))) other))),
     parts_differ same told kind,
+  )
+
+  unasked : label.kind ≡ kept.kind → asks_for_parts kept.kind ≡ false → TemplateDiffers program frame kept → ⊥
+  unasked kind not_asked (inl gone) = is_gone (site program frame.place.slot.0) label there gone
+  unasked kind not_asked (inr (inl other)) = other.1 (sym kind_there ∙ ap Some kind)
+  unasked kind not_asked (inr (inr other)) = false≢true (sym not_asked ∙ other.1.0)
+
+  -- where they aren't, the kind tells alone
+  pub kind_tells_alone : (asked : Bool) → asked ≡ asks_for_parts kept.kind → label.kind ≡ kept.kind → asked ≡ false
+      → IsTrue asked ↔ TemplateDiffers program frame kept
+  kind_tells_alone asked told kind not_asked = (
+    λ other. absurd (false≢true (sym not_asked ∙ other)),
+    λ differs. absurd (unasked kind (sym told ∙ not_asked) differs),
   )

@@ -37,7 +37,7 @@ template_of_same one other frame template same (inl gone) =
 template_of_same one other frame template same (inr (inl kind)) =
     inr (inl (kind.0, λ e. kind.1 (kind_same one other frame.place.slot.0 same ∙ e)))
 template_of_same one other frame template same (inr (inr parts)) =
-    inr (inr (parts.0, λ e. parts.1 (parts_same one other frame.place.slot.0 same ∙ e)))
+    inr (inr (parts.0, (parts.1.0, λ e. parts.1.1 (parts_same one other frame.place.slot.0 same ∙ e))))
 
 frames_asked : (one other : Forest) (answer : Option ResumeRefusal) (frames : List Frame) (headings : List Parts) (declared : List (List Declared))
     (held : List HeldTemplate)

@@ -26,7 +26,7 @@ use Rattle.tree_steps.specs.StandingSlot.{Around, StandsInside, loop_by_kind, lo
 use Rattle.plcs_store.specs.declared.frame.Frame.{Frame}
 use Rattle.plcs_store.specs.Configuration.{frame_at, frame_place}
 use Rattle.plcs_store.specs.Fits.{AreVariables, HasLoops, StandsAround, StandsAt, StandsAtStart, is_waiting_place, loops_at, waits_in_template}
-use Rattle.plcs_store.specs.Resume.{Parts, kind_held, parts_held, resolved_frame, resolved_place}
+use Rattle.plcs_store.specs.Resume.{Parts, asks_for_parts, kind_held, parts_held, resolved_frame, resolved_place}
 use Rattle.resume_rule.proofs.AllowedFrames.{IsAllowed}
 use Rattle.resume_rule.proofs.SettledEquations.{IsSettled, lists_settled, number_settled, true_settled, truth_settled}
 
@@ -218,7 +218,11 @@ module _ (laws : TreeLaws) (earlier later : PlainTree) (is_earlier : IsTree earl
             (kept
             (inr (
               kind,
-              λ get. absurd (allowed.parts other (λ parts. fails (kept (inr (kind, λ also. variables other get (same_parts parts)))))),
+              λ get.
+                  let kind_at : Site → NodeKind = λ found. found.label.kind in
+                  absurd
+                  (allowed.parts other was.label.kind (ap (option_map kind_at) both.was_there) (ap asks_for_parts get)
+                  (λ parts. fails (kept (inr (kind, λ also. variables other get (same_parts parts)))))),
             ))))
 
     -- at a start the loops are those around it

@@ -123,6 +123,7 @@ main_in (NodeKind.Filled template) = in_template template
     in_template Template.IfElse = refl
     in_template Template.While = refl
     in_template Template.For = refl
+    in_template Template.Until = refl
     in_template Template.Group = refl
     in_template Template.Get = refl
     in_template Template.Put = refl

@@ -158,6 +158,7 @@ row_empties Template.If = refl
 row_empties Template.IfElse = refl
 row_empties Template.While = refl
 row_empties Template.For = refl
+row_empties Template.Until = refl
 row_empties Template.Group = refl
 row_empties Template.Get = refl
 row_empties Template.Put = refl

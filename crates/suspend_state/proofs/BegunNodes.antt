@@ -1,4 +1,4 @@
--- A run that comes to a group or a comment goes to its first item, at which it begins.
+-- A run that comes to a group, a comment or an Until goes to its first item, at which it begins.
 use Rattle.std.specs.Prelude.{◌≡◌, refl, ℕ, ◌<◌, ◌≤◌, Bool, true, false, if◌then◌else◌, List, [], ◌∷◌, ◌++◌, length, slice_get, slice_index_or, Some, None}
 use Rattle.std.proofs.Common.{ap, sym, ◌∙◌, subst, arith}
 use Rattle.std.proofs.Math.Bool.{false≢true}
@@ -30,6 +30,7 @@ filled_starts sort sections items begins (own, others, same, are, fill) =
 
 template_starts : (template : Template) (items : List Sort) → passes_in (NodeKind.Filled template) ≡ true
     → Fill (row_of (NodeKind.Filled template)).sections items → StartsRun items
+template_starts Template.Until items e fill = filled_starts Sort.Statement [] items refl fill
 template_starts Template.Group items e fill = filled_starts Sort.Statement [] items refl fill
 template_starts Template.Comment items e fill = filled_starts Sort.Statement [] items refl fill
 template_starts other items e fill = absurd (false≢true e)

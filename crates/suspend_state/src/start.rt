@@ -76,12 +76,12 @@ fn passes_in(kind: NodeKind) -> bool
     }
 }
 
-/// Whether a run that comes to the template goes to its first item at once: a group, or a comment.
+/// Whether a run that comes to the template goes to its first item at once: a group, a comment, or an Until.
 fn passes_in_template(template: Template) -> bool
     ensures { result ≡ passes_in_template template }
 {
     match template {
-        Template::Group | Template::Comment => true,
+        Template::Until | Template::Group | Template::Comment => true,
         Template::Fixed
         | Template::Bit
         | Template::Char

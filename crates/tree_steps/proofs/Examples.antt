@@ -8,7 +8,7 @@ use Rattle.plcs_grammar.specs.declared.template.Template.{Template}
 use Rattle.plcs_grammar.specs.Builtin.{is_builtin_name}
 use Rattle.plcs_grammar.specs.PlainPhrase.{PlainExprs, PlainPhrase, PlainVarRef}
 use Rattle.template_tree.specs.Programs.NewTree.{bare_label}
-use Rattle.template_tree.specs.Positions.Place.{Exists, PlainPlace, Site, Start, place_at, place_exists_at, site}
+use Rattle.template_tree.specs.Positions.Place.{After, Exists, PlainPlace, Site, Start, place_at, place_exists_at, site}
 use Rattle.template_tree.specs.Programs.PlainTree.{Forest, Label}
 use Rattle.tree_steps.specs.RunPlace.{HasPlace, is_first_marked}
 use Rattle.tree_steps.specs.StandingSlot.{StandsInside, loops_around, outermost_slot}
@@ -35,7 +35,7 @@ abbrev call : PlainPhrase
 call = PlainPhrase.call (codes "p") PlainExprs.nil
 
 -- inside main x declared, and a For over a group of a GET of x twice, an empty GET and a GET of y twice, which is
--- marked; then a CALL and a hole
+-- marked; then a CALL, a hole, and an Until over a hole
 abbrev main_inner : Forest
 main_inner =
     leaf (filled 1 Template.Fixed (Some declaration ∷ []))
@@ -46,7 +46,8 @@ main_inner =
     (leaf (filled 6 Template.Get (Some (PlainPhrase.variable_list (twice (codes "y"))) ∷ [])) Forest.nil)))
     Forest.nil)
     (leaf (filled 7 Template.Call (Some call ∷ []))
-    (leaf (bare_label 8 NodeKind.StatementHole) Forest.nil)))
+    (leaf (bare_label 8 NodeKind.StatementHole)
+    (Forest.cons (filled 13 Template.Until (None ∷ [])) (leaf (bare_label 14 NodeKind.StatementHole) Forest.nil) Forest.nil))))
 
 -- that main, and a procedure
 abbrev sample : Forest
@@ -96,6 +97,13 @@ call_no_third h = false≢true h
 -- a For that takes its next turn
 for_turn : Exists sample_marks sample (place_at 2 1)
 for_turn = refl
+
+-- an Until that tests its condition
+until_test : Exists sample_marks sample (place_at 13 1)
+until_test = refl
+
+until_no_third : Exists sample_marks sample (place_at 13 2) → ⊥
+until_no_third h = false≢true h
 
 -- the end of main, and of a procedure, neither of which is a place to start at
 main_end : Exists sample_marks sample (place_at 0 1)
@@ -167,3 +175,14 @@ get_procedure = refl
 -- a run that comes to the group begins with the GET in it
 group_begins : Start sample 3 ≡ Some (place_at 4 0)
 group_begins = refl
+
+-- a run that comes to the Until begins with the hole in it, behind which it tests the condition
+until_begins : Start sample 13 ≡ Some (place_at 14 0)
+until_begins = refl
+
+until_tests_behind : After sample 14 ≡ Some (place_at 13 1)
+until_tests_behind = refl
+
+-- it is no loop that a run keeps
+until_loops : loops_around ((13, NodeKind.Filled Template.Until) ∷ ((0, NodeKind.Main) ∷ [])) ≡ []
+until_loops = refl

@@ -1,7 +1,7 @@
 -- A site is of the node that stands in its slot, and a run that comes to a node with a place at its start begins at such
 -- a node in the same loops.
--- Only groups and comments pass a run on to what stands inside them; these are no loops, and a run begins at their first
--- item.
+-- Only a group, a comment and an Until pass a run on to what stands inside them; these are no loops that a run keeps,
+-- and a run begins at their first item.
 use Rattle.std.specs.Prelude.{◌≡◌, refl, ℕ, ◌<◌, ◌≤◌, ◌==◌, ◌&&◌, ◌||◌, IsTrue, Bool, true, false, if◌then◌else◌, List, [], ◌∷◌, ◌++◌, length, slice_index_or, Option, Some, None, option_map, ◌⊎◌}
 use Rattle.std.specs.Option.{option_or}
 use Rattle.std.proofs.Common.{ap, sym, ◌∙◌, subst, arith, append-nil, inl, inr}
@@ -175,6 +175,7 @@ filled_starts sort sections items begins (own, others, same, are, fill) =
 
 template_starts : (template : Template) (items : List Sort) → passes_in (NodeKind.Filled template) ≡ true
     → Fill (row_of (NodeKind.Filled template)).sections items → StartsRun items
+template_starts Template.Until items e fill = filled_starts Sort.Statement [] items refl fill
 template_starts Template.Group items e fill = filled_starts Sort.Statement [] items refl fill
 template_starts Template.Comment items e fill = filled_starts Sort.Statement [] items refl fill
 template_starts other items e fill = absurd (false≢true e)
@@ -185,11 +186,12 @@ kind_starts (NodeKind.Filled template) items e fill = template_starts template i
 kind_starts other items e fill = absurd (false≢true e)
 
 template_no_loop : (template : Template) (slot : ℕ) → passes_in (NodeKind.Filled template) ≡ true → loop_by_kind (NodeKind.Filled template) slot ≡ []
+template_no_loop Template.Until slot e = refl
 template_no_loop Template.Group slot e = refl
 template_no_loop Template.Comment slot e = refl
 template_no_loop other slot e = absurd (false≢true e)
 
--- what passes a run on to its first item is no loop
+-- what passes a run on to its first item is no loop that it keeps
 no_loop : (kind : NodeKind) (slot : ℕ) → passes_in kind ≡ true → loop_by_kind kind slot ≡ []
 no_loop (NodeKind.Filled template) slot e = template_no_loop template slot e
 no_loop other slot e = absurd (false≢true e)

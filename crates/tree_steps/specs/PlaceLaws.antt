@@ -50,8 +50,8 @@ RunsBegin =
     → has_start (sort_of kind) ≡ true
     → (place : PlainPlace) × (Start tree.items slot ≡ Some place) × BeginsAt tree.items slot around place
 
--- the law of the place at which a run begins that comes to a node other than a group and a comment, which alone pass it
--- on to what stands inside them: it is at that node itself
+-- the law of the place at which a run begins that comes to a node other than a group, a comment and an Until, which
+-- alone pass it on to what stands inside them: it is at that node itself
 abbrev pub OthersBeginThemselves : Type 0
 OthersBeginThemselves =
     (items : Forest) (slot : ℕ) (kind : NodeKind) (around : Around) → times slot items ≤ 1

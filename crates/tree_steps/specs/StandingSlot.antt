@@ -26,7 +26,7 @@ outermost_slot slot [] = slot
 outermost_slot slot (node ∷ around) = outermost_slot node.0 around
 
 -- of a node that encloses a standing slot, by its template: its own slot as a list of loops, if it is a loop that a run
--- keeps, as a For alone is; a While tests anew each time
+-- keeps, as a For alone is; a While and an Until test anew each time
 abbrev pub loop_by_template : Template → (slot : ℕ) → List ℕ
 loop_by_template Template.Fixed slot = []
 loop_by_template Template.Bit slot = []
@@ -35,6 +35,7 @@ loop_by_template Template.If slot = []
 loop_by_template Template.IfElse slot = []
 loop_by_template Template.While slot = []
 loop_by_template Template.For slot = slot ∷ []
+loop_by_template Template.Until slot = []
 loop_by_template Template.Group slot = []
 loop_by_template Template.Get slot = []
 loop_by_template Template.Put slot = []

@@ -74,6 +74,7 @@ lists (NodeKind.Filled Template.If) parts part items are is = refl
 lists (NodeKind.Filled Template.IfElse) parts part items are is = refl
 lists (NodeKind.Filled Template.While) parts part items are is = refl
 lists (NodeKind.Filled Template.For) parts part items are is = refl
+lists (NodeKind.Filled Template.Until) parts part items are is = refl
 lists (NodeKind.Filled Template.Group) parts part items are is = refl
 lists (NodeKind.Filled Template.Get) parts part items are is = refl
 lists (NodeKind.Filled Template.Put) parts part items are is = refl

@@ -70,6 +70,7 @@ heading_binds (NodeKind.Filled Template.If) parts heading is = absurd (none-some
 heading_binds (NodeKind.Filled Template.IfElse) parts heading is = absurd (none-some heading is)
 heading_binds (NodeKind.Filled Template.While) parts heading is = absurd (none-some heading is)
 heading_binds (NodeKind.Filled Template.For) parts heading is = absurd (none-some heading is)
+heading_binds (NodeKind.Filled Template.Until) parts heading is = absurd (none-some heading is)
 heading_binds (NodeKind.Filled Template.Group) parts heading is = absurd (none-some heading is)
 heading_binds (NodeKind.Filled Template.Get) parts heading is = absurd (none-some heading is)
 heading_binds (NodeKind.Filled Template.Put) parts heading is = absurd (none-some heading is)

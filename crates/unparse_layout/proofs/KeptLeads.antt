@@ -7,7 +7,7 @@ use Rattle.plcs_grammar.specs.declared.node_kind.NodeKind.TheVariants.{Declarati
 use Rattle.plcs_grammar.specs.declared.node_kind.Sort.{Sort}
 use Rattle.plcs_grammar.specs.declared.row.Amount.{Amount}
 use Rattle.plcs_grammar.specs.declared.template.Template.{Template}
-use Rattle.plcs_grammar.specs.declared.template.Template.TheVariants.{Fixed, Bit, Char, If, IfElse, While, For, Group, Get, Put, PutSkip, Call, Return, Comment, Proc, ProcP}
+use Rattle.plcs_grammar.specs.declared.template.Template.TheVariants.{Fixed, Bit, Char, If, IfElse, While, For, Until, Group, Get, Put, PutSkip, Call, Return, Comment, Proc, ProcP}
 use Rattle.plcs_grammar.specs.Template.{PlainSection, body, body_after, program_sections, row_of, template_row}
 use Rattle.template_tree.specs.Programs.PlainTree.{Forest}
 use Rattle.template_tree.specs.Programs.Program.{Fill, sort_of, sorts}
@@ -80,6 +80,7 @@ template_kept If before after one other = inl (refl, tt)
 template_kept IfElse before after one other = inr (two_bodies (codes "ELSE") before one ∙ sym (two_bodies (codes "ELSE") after other))
 template_kept While before after one other = inl (refl, tt)
 template_kept For before after one other = inl (refl, tt)
+template_kept Until before after one other = inl (refl, tt)
 template_kept Group before after one other = inl (refl, tt)
 template_kept Get before after one other = inl tt
 template_kept Put before after one other = inl tt

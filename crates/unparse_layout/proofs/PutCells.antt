@@ -146,6 +146,7 @@ line_short (NodeKind.Filled template) = short template
     short Template.IfElse = omega arith
     short Template.While = omega arith
     short Template.For = omega arith
+    short Template.Until = omega arith
     short Template.Group = omega arith
     short Template.Get = omega arith
     short Template.Put = omega arith

@@ -75,11 +75,11 @@ abbrev pub shapes : List NodeKind
 shapes =
     NodeKind.StatementHole ∷ NodeKind.DeclarationHole ∷ NodeKind.ProcedureHole ∷ NodeKind.Main ∷
     NodeKind.Filled Template.IfElse ∷ NodeKind.Filled Template.While ∷ NodeKind.Filled Template.Group ∷
-    NodeKind.Filled Template.For ∷ NodeKind.Filled Template.Get ∷ NodeKind.Filled Template.Put ∷
-    NodeKind.Filled Template.PutSkip ∷ NodeKind.Filled Template.Call ∷ NodeKind.Filled Template.Return ∷
-    NodeKind.Filled Template.Comment ∷ NodeKind.Filled Template.Fixed ∷ NodeKind.Filled Template.Bit ∷
-    NodeKind.Filled Template.Char ∷ NodeKind.Assign ∷ NodeKind.Filled Template.ProcP ∷
-    NodeKind.Filled Template.Proc ∷ []
+    NodeKind.Filled Template.Until ∷ NodeKind.Filled Template.For ∷ NodeKind.Filled Template.Get ∷
+    NodeKind.Filled Template.Put ∷ NodeKind.Filled Template.PutSkip ∷ NodeKind.Filled Template.Call ∷
+    NodeKind.Filled Template.Return ∷ NodeKind.Filled Template.Comment ∷ NodeKind.Filled Template.Fixed ∷
+    NodeKind.Filled Template.Bit ∷ NodeKind.Filled Template.Char ∷ NodeKind.Assign ∷
+    NodeKind.Filled Template.ProcP ∷ NodeKind.Filled Template.Proc ∷ []
 
 -- whether a line of these segments that is read may begin with the byte
 abbrev pub may_begin : ℕ → List PlainSegment → Bool

@@ -133,7 +133,7 @@ fn shapes_from(byte: u8) -> &'static [NodeKind]
 
 /// The kinds of nodes as their first lines tell them, those first whose lines begin with words. What is found more
 /// often comes first, so that fewer are tried.
-pub(crate) const SHAPES: [NodeKind; 20] = [
+pub(crate) const SHAPES: [NodeKind; 21] = [
     NodeKind::StatementHole,
     NodeKind::DeclarationHole,
     NodeKind::ProcedureHole,
@@ -141,6 +141,7 @@ pub(crate) const SHAPES: [NodeKind; 20] = [
     NodeKind::Filled(Template::IfElse),
     NodeKind::Filled(Template::While),
     NodeKind::Filled(Template::Group),
+    NodeKind::Filled(Template::Until),
     NodeKind::Filled(Template::For),
     NodeKind::Filled(Template::Get),
     NodeKind::Filled(Template::Put),
@@ -182,9 +183,10 @@ const FROM_M: [NodeKind; 4] = [
 ];
 
 /// The kinds of nodes whose first lines may begin with `D`.
-const FROM_D: [NodeKind; 9] = [
+const FROM_D: [NodeKind; 10] = [
     NodeKind::Filled(Template::While),
     NodeKind::Filled(Template::Group),
+    NodeKind::Filled(Template::Until),
     NodeKind::Filled(Template::For),
     NodeKind::Filled(Template::Fixed),
     NodeKind::Filled(Template::Bit),

@@ -12,7 +12,7 @@ use Rattle.plcs_code.specs.contracts.node_span.NodeSpan as span_row
 use Rattle.plcs_code.specs.declared.lengths.NodeLength.{NodeLength}
 use Rattle.plcs_code.specs.declared.node_span.NodeSpan.{NodeSpan}
 use Rattle.plcs_code.specs.Gen.{codes_around, length_around, node_codes, node_lengths, node_spans}
-use Rattle.plcs_code.specs.Pieces.{CodeJumps, first_length, other_lengths, own_jumps, own_pieces, pieces}
+use Rattle.plcs_code.specs.Pieces.{CodeJumps, count_pieces, first_length, other_lengths, own_jumps, own_pieces, pieces}
 use Rattle.plcs_code.specs.PlainInstr.{PlainInstr}
 use Rattle.plcs_code.specs.Private.InstrCode.{block_code}
 
@@ -40,6 +40,7 @@ abbrev pub length_of : MarkMap → ItemMap → Label → (lengths : List ℕ) �
 length_of marks items label lengths =
     record {
       whole = length_around marks items label lengths;
+      pieces = count_pieces (pieces marks items label);
       first = first_length lengths;
       others = other_lengths lengths;
     }
@@ -84,7 +85,7 @@ with_nodes marks items between nodes laid =
 -- nodes inside it
 abbrev pub jumps_by : MarkMap → ItemMap → Label → NodeLength → CodeJumps
 jumps_by marks items label lengths =
-    own_jumps marks label (length (pieces marks items label).before) lengths.first lengths.others
+    own_jumps marks label lengths.pieces lengths.first lengths.others
 
 -- what is laid in a node's own code before what is inside, with the jump ahead
 abbrev pub front : MarkMap → ItemMap → Label → NodeLength → List PlainInstr

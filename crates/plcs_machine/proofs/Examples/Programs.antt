@@ -1,5 +1,5 @@
 -- Runs of the code of programs, from their start to their end, with how many instructions each step fetches.
-use Rattle.std.specs.Prelude.{◌≡◌, ℕ, pos, false, List, [], ◌∷◌, codes, Option, Some, None}
+use Rattle.std.specs.Prelude.{◌≡◌, ℕ, pos, Bool, true, false, List, [], ◌∷◌, codes, Option, Some, None}
 use Rattle.std.specs.Fmt.{digits}
 use Rattle.std.specs.FinMap.{empty, from_entries, gets}
 use Rattle.plcs_base.specs.Mark.{MarkMap}
@@ -83,6 +83,41 @@ sum_steps = simp (gets, places_total)
 
 sum_ends : Exec sum_code [] sum_last ≡ ended 1
 sum_ends = simp (gets, places_total)
+
+-- ---- 1 is put until a condition holds, which is a bit
+
+abbrev put_until : Bool → Forest
+put_until b =
+    main_of
+    (Forest.cons (filled 2 Template.Until (Some (PlainPhrase.condition (PlainExpr.bit b)) ∷ []))
+    (leaf (filled 3 Template.Put (Some (PlainPhrase.expression_list (single (number 1))) ∷ [])) Forest.nil)
+    Forest.nil)
+    (leaf (empty_label 4 NodeKind.ProcedureHole) Forest.nil)
+
+abbrev until_code : Bool → PlainCode
+until_code b = Gen no_marks no_items (put_until b)
+
+-- before the PUT inside, and before the test behind it
+abbrev until_first : PlainConfiguration
+until_first = main_with (place_at 3 0) []
+
+abbrev until_test : PlainConfiguration
+until_test = record (main_with (place_at 2 1) []) { output = codes "1" }
+
+until_begins : Enter (until_code true) ≡ Some record { result = until_first; fetches = 1 }
+until_begins = simp gets
+
+until_puts : Exec (until_code true) [] until_first ≡ stepped until_test 3
+unfolding digits
+until_puts = simp (gets, places_total)
+
+-- where the condition holds, the run goes on behind the loop
+until_goes_on : Exec (until_code true) [] until_test ≡ stepped (record (main_with (place_at 0 1) []) { output = codes "1" }) 3
+until_goes_on = simp (gets, places_total)
+
+-- and where it doesn't, at the first of what stands inside
+until_comes_back : Exec (until_code false) [] until_test ≡ stepped (record until_first { output = codes "1" }) 3
+until_comes_back = simp (gets, places_total)
 
 -- ---- a call of p with the number 1, which puts `a + 1` of its parameter a
 

@@ -3,6 +3,7 @@ use Rattle.std.specs.Prelude.{◌≡◌, refl, ℕ, ◌==◌, pos, neg_ℤ, Bool
 use Rattle.std.specs.Fmt.{digits}
 use Rattle.plcs_base.specs.declared.declared.ItemType.{ItemType}
 use Rattle.plcs_grammar.specs.declared.node_kind.NodeKind.{NodeKind}
+use Rattle.plcs_grammar.specs.declared.operator.InfixOp.{InfixOp}
 use Rattle.plcs_grammar.specs.declared.template.Template.{Template}
 use Rattle.plcs_grammar.specs.Builtin.{is_builtin_name}
 use Rattle.plcs_grammar.specs.PlainPhrase.{PlainExpr, PlainPhrase}
@@ -33,8 +34,11 @@ x = PlainExpr.variable (reference (codes "x"))
 abbrev yes_bit : PlainExpr
 yes_bit = PlainExpr.bit true
 
+abbrev x_is_one : PlainExpr
+x_is_one = PlainExpr.binary InfixOp.Equal x (number 1)
+
 -- x and y declared; x set; an IF over a group, an IFELSE over two PUTs, a DO WHILE over a hole, a For over a comment of
--- a GET, a CALL of q, an empty PUT, and a RETURN
+-- a GET, a CALL of q, an empty PUT, a RETURN, and an Until over a group of a PUT and over a hole
 abbrev main_inner : Forest
 main_inner =
     leaf (filled 1 Template.Fixed (one_part (PlainPhrase.declared_list (record { name = codes "x"; size = None } ∷ (record { name = codes "y"; size = None } ∷ [])))))
@@ -52,7 +56,11 @@ main_inner =
     (Forest.cons (filled 12 Template.Comment []) (leaf (filled 13 Template.Get (one_part (PlainPhrase.variable_list (reference (codes "x") ∷ (reference (codes "y") ∷ []))))) Forest.nil) Forest.nil)
     (leaf (filled 14 Template.Call (one_part (PlainPhrase.call (codes "q") (alone x))))
     (leaf (filled 15 Template.Put (None ∷ []))
-    (leaf (filled 16 Template.Return []) Forest.nil))))))))
+    (leaf (filled 16 Template.Return [])
+    (Forest.cons (filled 17 Template.Until (one_part (PlainPhrase.condition x_is_one)))
+    (Forest.cons (filled 18 Template.Group []) (leaf (filled 19 Template.Put (one_part (PlainPhrase.expression_list (alone x)))) Forest.nil)
+    (leaf (bare_label 23 NodeKind.StatementHole) Forest.nil))
+    Forest.nil)))))))))
 
 abbrev sample : Forest
 sample =
@@ -89,6 +97,10 @@ spots : Rows
     ∷ (spot 14 1, Some (Spot.waits (place_at 15 0)))
     ∷ (spot 15 0, Some (Spot.halts Reason.Placeholder))
     ∷ (spot 16 0, Some Spot.leaves)
+    ∷ (spot 17 0, None)
+    ∷ (spot 17 1, Some (Spot.tests x_is_one (place_at 0 1) (place_at 19 0)))
+    ∷ (spot 17 2, None)
+    ∷ (spot 19 0, Some (Spot.writes false (alone x) (place_at 23 0)))
     ∷ (spot 0 0, None)
     ∷ (spot 0 1, Some Spot.leaves)
     ∷ (spot 20 1, Some Spot.leaves)
@@ -97,8 +109,8 @@ spots : Rows
     ∷ (spot 99 0, None) ∷ [])
 spots = refl
 
--- a marked phrase stops the run; the next iteration of a For needs its variable alone; an empty part comes before a
--- mark
+-- a marked phrase stops the run, a marked condition of an Until behind what stands inside; the next iteration of a
+-- For needs its variable alone; an empty part comes before a mark
 marked_spots : Rows
     ((spot_by (marked_at 2) sample (place_at 2 0), Some (Spot.halts Reason.Marked))
     ∷ (spot_by (marked_at 9) sample (place_at 9 0), Some (Spot.halts Reason.Marked))
@@ -107,6 +119,8 @@ marked_spots : Rows
     ∷ (spot_by (marked_at 11) sample (place_at 11 1), Some (Spot.halts Reason.Marked))
     ∷ (spot_by (λ slot part. part == 1) sample (place_at 11 0), Some (Spot.halts Reason.Marked))
     ∷ (spot_by (λ slot part. part == 1) sample (place_at 11 1), spot 11 1)
+    ∷ (spot_by (marked_at 17) sample (place_at 17 0), None)
+    ∷ (spot_by (marked_at 17) sample (place_at 17 1), Some (Spot.halts Reason.Marked))
     ∷ (spot_by (marked_at 15) sample (place_at 15 0), Some (Spot.halts Reason.Placeholder)) ∷ [])
 marked_spots = refl
 
@@ -139,6 +153,9 @@ steps : Rows
     ∷ (go (codes " 8, 9") (main_at 13 0 Cell.Unset Cell.Unset (loop 3 2 ∷ [])), stepped (record (main_at 13 1 (held 8) Cell.Unset (loop 3 2 ∷ [])) { taken = 4 }))
     ∷ (go (codes "z") (main_at 13 0 Cell.Unset Cell.Unset (loop 3 2 ∷ [])), stopped (Reason.Fault FaultKind.Conversion))
     ∷ (go (codes "  ") (main_at 13 0 Cell.Unset Cell.Unset (loop 3 2 ∷ [])), stopped Reason.InputWanted)
+    ∷ (go [] (main_at 17 1 (held 0) Cell.Unset []), stepped (main_at 19 0 (held 0) Cell.Unset []))
+    ∷ (go [] (main_at 17 1 (held 1) Cell.Unset []), stepped (main_at 0 1 (held 1) Cell.Unset []))
+    ∷ (go [] (main_at 17 1 Cell.Unset Cell.Unset []), stopped (Reason.Fault FaultKind.Uninitialized))
     ∷ (go [] (main_at 0 1 Cell.Unset Cell.Unset []), Some PlainStepAnswer.ended)
     ∷ (go [] (main_at 16 0 Cell.Unset Cell.Unset []), Some PlainStepAnswer.ended) ∷ [])
 unfolding digits
@@ -204,12 +221,13 @@ call_taken_back = refl
 return_taken_back : step_undone (undo_of Act.leave (within 22 0)) (main_at 15 0 (held 7) Cell.Unset []) ≡ within 22 0
 return_taken_back = refl
 
--- ---- where a resumed run goes on: at the first statement in a group or a comment, and else where it stands
+-- ---- where a resumed run goes on: at the first statement in a group, a comment or an Until, and else where it stands
 
 abbrev resumed_at : ℕ → ℕ → PlainPlace
 resumed_at slot point = resolved_place sample (place_at slot point)
 
 resumed_places : Rows
     ((resumed_at 4 0, place_at 5 0) ∷ ((resumed_at 12 0, place_at 13 0) ∷ ((resumed_at 2 0, place_at 2 0)
-    ∷ ((resumed_at 11 1, place_at 11 1) ∷ ((resumed_at 99 0, place_at 99 0) ∷ [])))))
+    ∷ ((resumed_at 11 1, place_at 11 1) ∷ ((resumed_at 17 0, place_at 19 0) ∷ ((resumed_at 17 1, place_at 17 1)
+    ∷ ((resumed_at 99 0, place_at 99 0) ∷ [])))))))
 resumed_places = refl

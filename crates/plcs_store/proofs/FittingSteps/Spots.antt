@@ -330,6 +330,7 @@ module _ (program : Forest) (input : List ℕ) (c : PlainConfiguration) (node : 
   template_starts Template.While are start stays =
       tests_go (NodeKind.Filled Template.While) (begin found.inner (place_at found.label.slot 0)) found.after are refl
   template_starts Template.For are start stays = for_goes (begin found.inner (place_at found.label.slot 1)) found.after are
+  template_starts Template.Until are start stays = absurd (false≢true (sym stays))
   template_starts Template.Group are start stays = absurd (false≢true (sym stays))
   template_starts Template.Get are start stays = gets_go (NodeKind.Filled Template.Get) are refl
   template_starts Template.Put are start stays = puts_go (NodeKind.Filled Template.Put) false are refl
@@ -363,6 +364,10 @@ module _ (program : Forest) (input : List ℕ) (c : PlainConfiguration) (node : 
       tested_so Goes (suc point == 1)
       (needing marked parts (0 ∷ []) (iteration_spot found.label.slot parts (begin found.inner (place_at found.label.slot 1)) found.after)) exists
       (iterates_go (begin found.inner (place_at found.label.slot 1)) found.after are (keeps refl (eqb-true (suc point) 1 exists)))
+  template_points Template.Until point are exists ready keeps =
+      tested_so Goes (suc point == 1)
+      (needing marked parts (0 ∷ []) (test_spot parts found.after (begin found.inner (place_at found.label.slot 1)))) exists
+      (tests_go (NodeKind.Filled Template.Until) found.after (begin found.inner (place_at found.label.slot 1)) are refl)
   template_points Template.Group point are exists ready keeps = absurd (false≢true exists)
   template_points Template.Get point are exists ready keeps =
       let both = and_both (not (marked 0)) (nat_lt (suc point) (item_count parts)) exists in

@@ -332,6 +332,17 @@ module _ (laws : SiteLaws) (program : Forest) (few : (slot : ℕ) → times slot
       (needing marked found.label.parts (0 ∷ [])
       (iteration_spot found.label.slot found.label.parts (begin found.inner (place_at found.label.slot 1)) found.after))
       (iteration_follows point is)
+  template_point_follows point Template.Until is =
+      there_at_one (Follows program (home found sited.around) (loops_here found sited.around point) found.label.slot) (point == 1)
+      (needing marked found.label.parts (0 ∷ []) (test_spot found.label.parts found.after (begin found.inner (place_at found.label.slot 1))))
+      (λ one.
+      subst
+      (λ (loops : List ℕ). WhenThere (Follows program (home found sited.around) loops found.label.slot)
+      (needing marked found.label.parts (0 ∷ []) (test_spot found.label.parts found.after (begin found.inner (place_at found.label.slot 1)))))
+      (sym (plain_here (NodeKind.Filled Template.Until) point is (λ slot. refl)))
+      (test_follows found.after (begin found.inner (place_at found.label.slot 1)) (after_goes_on (NodeKind.Filled Template.Until) is refl)
+      (inside_before_end (NodeKind.Filled Template.Until) 1 (loops_around sited.around) is refl
+      (plain_inside (NodeKind.Filled Template.Until) is (λ slot. refl)))))
   template_point_follows point Template.Get is =
       there_unmarked (Follows program (home found sited.around) (loops_here found sited.around point) found.label.slot) (marked 0)
       (get_spot found point)

@@ -71,6 +71,7 @@ EndIsPlace label kind (Some point) =
 template_end_is_place : (label : Label) (template : Template) → EndIsPlace label (NodeKind.Filled template) (template_end template)
 template_end_is_place label Template.While = (λ marked. refl, refl, λ e. refl, λ slot. refl)
 template_end_is_place label Template.For = (λ marked. refl, refl, λ e. refl, λ slot. refl)
+template_end_is_place label Template.Until = (λ marked. refl, refl, λ e. absurd (omega (arith, e)), λ slot. refl)
 template_end_is_place label Template.Proc = (λ marked. refl, refl, λ e. refl, λ slot. refl)
 template_end_is_place label Template.ProcP = (λ marked. refl, refl, λ e. refl, λ slot. refl)
 template_end_is_place label other = tt
@@ -88,6 +89,7 @@ NoLoopWithout kind (Some point) = Unit {0}
 template_without_end : (template : Template) → NoLoopWithout (NodeKind.Filled template) (template_end template)
 template_without_end Template.While = tt
 template_without_end Template.For = tt
+template_without_end Template.Until = tt
 template_without_end Template.Proc = tt
 template_without_end Template.ProcP = tt
 template_without_end other = λ slot. refl
@@ -135,6 +137,7 @@ NothingWithout kind (Some point) = Unit {0}
 template_nothing : (template : Template) → NothingWithout (NodeKind.Filled template) (template_end template)
 template_nothing Template.While = tt
 template_nothing Template.For = tt
+template_nothing Template.Until = tt
 template_nothing Template.Proc = tt
 template_nothing Template.ProcP = tt
 template_nothing other = λ items outermost fill. absurd (false≢true outermost)

@@ -59,13 +59,14 @@ every_template =
     (filled Template.IfElse (None ∷ []) (statement_hole hole)
     (filled Template.While (None ∷ []) hole
     (filled Template.For (None ∷ None ∷ None ∷ None ∷ []) hole
+    (filled Template.Until (None ∷ []) hole
     (filled Template.Group [] hole
     (filled Template.Get (None ∷ []) Forest.nil
     (filled Template.Put (None ∷ []) Forest.nil
     (filled Template.PutSkip (None ∷ []) Forest.nil
     (filled Template.Call (None ∷ []) Forest.nil
     (filled Template.Return [] Forest.nil
-    (filled Template.Comment (None ∷ []) hole hole))))))))))))))))
+    (filled Template.Comment (None ∷ []) hole hole)))))))))))))))))
     (filled Template.Proc (None ∷ []) holes (filled Template.ProcP (None ∷ None ∷ []) holes procedure_hole))
 
 every_template_lines :
@@ -86,6 +87,9 @@ every_template_lines :
     ∷ codes "    {statement}"
     ∷ codes "  END;"
     ∷ codes "  DO {variable} = {expression} TO {expression} BY {expression};"
+    ∷ codes "    {statement}"
+    ∷ codes "  END;"
+    ∷ codes "  DO UNTIL ( {condition} );"
     ∷ codes "    {statement}"
     ∷ codes "  END;"
     ∷ codes "  DO;"

@@ -3,7 +3,7 @@ use Rattle.std.specs.Prelude.{refl}
 use Rattle.plcs_grammar.specs.declared.node_kind.NodeKind.{NodeKind}
 use Rattle.plcs_grammar.specs.declared.node_kind.NodeKind.TheVariants.{DeclarationHole, StatementHole, ProcedureHole, Main, Assign, Filled}
 use Rattle.plcs_grammar.specs.declared.template.Template.{Template}
-use Rattle.plcs_grammar.specs.declared.template.Template.TheVariants.{Fixed, Bit, Char, If, IfElse, While, For, Group, Get, Put, PutSkip, Call, Return, Comment, Proc, ProcP}
+use Rattle.plcs_grammar.specs.declared.template.Template.TheVariants.{Fixed, Bit, Char, If, IfElse, While, For, Until, Group, Get, Put, PutSkip, Call, Return, Comment, Proc, ProcP}
 use Rattle.plcs_grammar.specs.Template.{procedure_sections, program_sections, row_of, template_row}
 use Rattle.template_tree.specs.Private.Apart.{AreApart}
 
@@ -18,6 +18,7 @@ template_apart If = (tt, tt)
 template_apart IfElse = (tt, (tt, tt))
 template_apart While = ((refl, refl), tt)
 template_apart For = ((refl, refl), tt)
+template_apart Until = ((refl, refl), tt)
 template_apart Group = ((refl, refl), tt)
 template_apart Get = tt
 template_apart Put = tt

@@ -109,6 +109,7 @@ template_empty Template.If = refl
 template_empty Template.IfElse = refl
 template_empty Template.While = refl
 template_empty Template.For = refl
+template_empty Template.Until = refl
 template_empty Template.Group = refl
 template_empty Template.Get = refl
 template_empty Template.Put = refl

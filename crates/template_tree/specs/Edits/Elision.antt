@@ -14,6 +14,7 @@ is_comment_template Template.If = false
 is_comment_template Template.IfElse = false
 is_comment_template Template.While = false
 is_comment_template Template.For = false
+is_comment_template Template.Until = false
 is_comment_template Template.Group = false
 is_comment_template Template.Get = false
 is_comment_template Template.Put = false

@@ -20,7 +20,7 @@ abbrev pub place_at : ℕ → ℕ → PlainPlace
 place_at slot point = record { slot = slot; point = point }
 
 -- where a run goes on once what stands inside a template is done, if not where it goes on behind the template itself:
--- a While tests again, a For takes its next iteration, and a procedure is left
+-- a While tests again, a For takes its next iteration, an Until tests, and a procedure is left
 abbrev pub template_end : Template → Option ℕ
 template_end Template.Fixed = None
 template_end Template.Bit = None
@@ -29,6 +29,7 @@ template_end Template.If = None
 template_end Template.IfElse = None
 template_end Template.While = Some 0
 template_end Template.For = Some 1
+template_end Template.Until = Some 1
 template_end Template.Group = None
 template_end Template.Get = None
 template_end Template.Put = None
@@ -54,7 +55,7 @@ abbrev pub end_at : ℕ → Option ℕ → PlainPlace → PlainPlace
 end_at slot None behind = behind
 end_at slot (Some point) behind = place_at slot point
 
--- whether a run that comes to the template goes to its first item at once: a group, or a comment
+-- whether a run that comes to the template goes to its first item at once: a group, a comment, or an Until
 abbrev pub passes_in_template : Template → Bool
 passes_in_template Template.Fixed = false
 passes_in_template Template.Bit = false
@@ -63,6 +64,7 @@ passes_in_template Template.If = false
 passes_in_template Template.IfElse = false
 passes_in_template Template.While = false
 passes_in_template Template.For = false
+passes_in_template Template.Until = true
 passes_in_template Template.Group = true
 passes_in_template Template.Get = false
 passes_in_template Template.Put = false
@@ -166,6 +168,7 @@ has_template_point marked label Template.If point = false
 has_template_point marked label Template.IfElse point = false
 has_template_point marked label Template.While point = false
 has_template_point marked label Template.For point = point == 1
+has_template_point marked label Template.Until point = point == 1
 has_template_point marked label Template.Group point = false
 has_template_point marked label Template.Get point = not marked && nat_lt point (item_count label.parts)
 has_template_point marked label Template.Put point = false

@@ -25,6 +25,10 @@ pub returns-in-Char : goal.returns-in-Char
 returns-in-Char g c =
     laid_nothing (before_of c.args.items.now c.args.node.now.label (option_map plain_halt c.args.stop)) _ _ c.in-Char.is refl
 
+pub returns-in-Until : goal.returns-in-Until
+returns-in-Until g c =
+    laid_nothing (before_of c.args.items.now c.args.node.now.label (option_map plain_halt c.args.stop)) _ _ c.in-Until.is refl
+
 pub returns-in-Group : goal.returns-in-Group
 returns-in-Group g c =
     laid_nothing (before_of c.args.items.now c.args.node.now.label (option_map plain_halt c.args.stop)) _ _ c.in-Group.is refl

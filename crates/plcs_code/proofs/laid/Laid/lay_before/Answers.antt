@@ -1,5 +1,4 @@
-use Rattle.std.proofs.Common.{List, length, ap, ◌∙◌, arith}
-use Rattle.std.proofs.lemmas.List.{length-append}
+use Rattle.std.proofs.Common.{List, ap, ◌∙◌}
 use Rattle.plcs_code.specs.Pieces.{own_pieces}
 use Rattle.plcs_code.specs.PlainInstr.{PlainInstr}
 use Rattle.plcs_code.specs.Private.LaidCode.{PlainLaid, with_instrs}
@@ -8,20 +7,6 @@ use Rattle.plcs_code.proofs.laid.Laid.lay_before.Goals as goal
 
 pub returns-in_default-clause-counts : goal.returns-in_default-clause-counts
 returns-in_default-clause-counts g c = (drafted c.lay_before.ensures).counts
-
-pub overflow_sub-result : goal.overflow_sub-result
-overflow_sub-result g c =
-    let code = (own_pieces (g.M.Marked.marks c.args.marks.now) c.args.items.now c.args.node.now.label).before in
-    let was = ap (λ (laid : PlainLaid). length laid.instrs) c.self.view_is in
-    let now = ap (λ (instrs : List PlainInstr). length instrs) ((drafted c.lay_before.ensures).instrs c.in-Ok.ensures.whole) in
-    omega (arith, was, now, length-append c.self.inside.draft.instrs code, c.length-start.ensures, c.in-Ok.ensures.length)
-
-pub returns-clause-length : goal.returns-clause-length
-returns-clause-length g c =
-    let code = (own_pieces (g.M.Marked.marks c.args.marks.now) c.args.items.now c.args.node.now.label).before in
-    let was = ap (λ (laid : PlainLaid). length laid.instrs) c.self.view_is in
-    let now = ap (λ (instrs : List PlainInstr). length instrs) ((drafted c.lay_before.ensures).instrs c.in-Ok.ensures.whole) in
-    omega (arith, was, now, length-append c.self.inside.draft.instrs code, c.length-start.ensures, c.in-Ok.ensures.length)
 
 pub returns-clause-laid : goal.returns-clause-laid
 returns-clause-laid g c =

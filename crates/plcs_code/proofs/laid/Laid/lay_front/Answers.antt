@@ -1,8 +1,8 @@
 -- What is laid before the nodes inside is one piece and one jump behind it, whose lengths add up.
-use Rattle.std.proofs.Common.{◌≡◌, ℕ, ◌++◌, List, length, ap, ◌∙◌, arith, append_assoc}
+use Rattle.std.proofs.Common.{◌≡◌, ◌++◌, List, length, ap, ◌∙◌, arith, append_assoc}
 use Rattle.std.specs.Option.{option_to_list}
 use Rattle.std.proofs.lemmas.List.{length-append}
-use Rattle.plcs_code.specs.Pieces.{CodeJumps, own_jumps, pieces}
+use Rattle.plcs_code.specs.Pieces.{CodeJumps, pieces}
 use Rattle.plcs_code.specs.PlainInstr.{PlainInstr}
 use Rattle.plcs_code.specs.Private.LaidCode.{PlainLaid, jumps_by, with_instrs}
 use Rattle.plcs_code.specs.Private.PlainJumps.{plain_jumps}
@@ -28,8 +28,7 @@ returns-in-Err-clause-counts g c =
     let items = g.D.Scope.items c.args.scope.now in
     let label = c.args.node.now.label in
     let lengths = c.args.lengths in
-    let around : plain_jumps c.own_jumps-jumps.result ≡ jumps_by marks items label lengths =
-    c.own_jumps-jumps.ensures ∙ ap (λ (n : ℕ). own_jumps marks label n lengths.first lengths.others) c.in-Ok.ensures.length in
+    let around : plain_jumps c.own_jumps-jumps.result ≡ jumps_by marks items label lengths = c.own_jumps-jumps.ensures in
     let before = (pieces marks items label).before in
     let ahead = option_to_list (jumps_by marks items label lengths).ahead in
     let u = g.W.Work.counts c.args.work.now in
@@ -46,8 +45,7 @@ returns-in-Ok-lay_jump-clause-laid g c =
     let items = g.D.Scope.items c.args.scope.now in
     let label = c.args.node.now.label in
     let lengths = c.args.lengths in
-    let around : plain_jumps c.own_jumps-jumps.result ≡ jumps_by marks items label lengths =
-    c.own_jumps-jumps.ensures ∙ ap (λ (n : ℕ). own_jumps marks label n lengths.first lengths.others) c.in-Ok.ensures.length in
+    let around : plain_jumps c.own_jumps-jumps.result ≡ jumps_by marks items label lengths = c.own_jumps-jumps.ensures in
     let before = (pieces marks items label).before in
     let ahead = option_to_list (jumps_by marks items label lengths).ahead in
     c.in-Ok-lay_jump.ensures.laid
@@ -62,8 +60,7 @@ returns-in-Ok-lay_jump-clause-between g c =
     let items = g.D.Scope.items c.args.scope.now in
     let label = c.args.node.now.label in
     let lengths = c.args.lengths in
-    let around : plain_jumps c.own_jumps-jumps.result ≡ jumps_by marks items label lengths =
-    c.own_jumps-jumps.ensures ∙ ap (λ (n : ℕ). own_jumps marks label n lengths.first lengths.others) c.in-Ok.ensures.length in
+    let around : plain_jumps c.own_jumps-jumps.result ≡ jumps_by marks items label lengths = c.own_jumps-jumps.ensures in
     ap (λ (j : CodeJumps). j.between) around
 
 pub returns-in-Ok-lay_jump-clause-back : goal.returns-in-Ok-lay_jump-clause-back
@@ -72,8 +69,7 @@ returns-in-Ok-lay_jump-clause-back g c =
     let items = g.D.Scope.items c.args.scope.now in
     let label = c.args.node.now.label in
     let lengths = c.args.lengths in
-    let around : plain_jumps c.own_jumps-jumps.result ≡ jumps_by marks items label lengths =
-    c.own_jumps-jumps.ensures ∙ ap (λ (n : ℕ). own_jumps marks label n lengths.first lengths.others) c.in-Ok.ensures.length in
+    let around : plain_jumps c.own_jumps-jumps.result ≡ jumps_by marks items label lengths = c.own_jumps-jumps.ensures in
     ap (λ (j : CodeJumps). j.back) around
 
 pub returns-in-Ok-lay_jump-clause-counted : goal.returns-in-Ok-lay_jump-clause-counted
@@ -82,8 +78,7 @@ returns-in-Ok-lay_jump-clause-counted g c =
     let items = g.D.Scope.items c.args.scope.now in
     let label = c.args.node.now.label in
     let lengths = c.args.lengths in
-    let around : plain_jumps c.own_jumps-jumps.result ≡ jumps_by marks items label lengths =
-    c.own_jumps-jumps.ensures ∙ ap (λ (n : ℕ). own_jumps marks label n lengths.first lengths.others) c.in-Ok.ensures.length in
+    let around : plain_jumps c.own_jumps-jumps.result ≡ jumps_by marks items label lengths = c.own_jumps-jumps.ensures in
     let before = (pieces marks items label).before in
     let ahead = option_to_list (jumps_by marks items label lengths).ahead in
     let u = g.W.Work.counts c.args.work.now in
@@ -100,8 +95,7 @@ returns-in-Ok-lay_jump-clause-counts g c =
     let items = g.D.Scope.items c.args.scope.now in
     let label = c.args.node.now.label in
     let lengths = c.args.lengths in
-    let around : plain_jumps c.own_jumps-jumps.result ≡ jumps_by marks items label lengths =
-    c.own_jumps-jumps.ensures ∙ ap (λ (n : ℕ). own_jumps marks label n lengths.first lengths.others) c.in-Ok.ensures.length in
+    let around : plain_jumps c.own_jumps-jumps.result ≡ jumps_by marks items label lengths = c.own_jumps-jumps.ensures in
     let before = (pieces marks items label).before in
     let ahead = option_to_list (jumps_by marks items label lengths).ahead in
     let u = g.W.Work.counts c.args.work.now in

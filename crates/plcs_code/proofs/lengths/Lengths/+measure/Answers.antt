@@ -98,5 +98,5 @@ returns-clause-lengths g t c =
     let others : c.loop-k.others ≡ other_lengths lengths = c.loop-k.invariant.others ∙ ap (λ f. other_lengths (node_lengths marks items f)) inner in
     let whole : c.in-Ok-sum_within-2.whole ≡ length_around marks items node.label lengths =
     omega (arith, first, others, first_others lengths, c.in-Ok-sum_within.ensures.sum, c.in-Ok-own_length.ensures.length, c.in-Ok-sum_within-2.ensures.sum) in
-    listed_more marks items node.label node.inner c.in-Ok-sum_within-2.whole c.loop-k.first c.loop-k.others c.args.self.now c.loop-k.self c.push.new.self whole first
-    others (c.loop-k.invariant.lengths ∙ ap (λ f. listed_lengths marks items f ++ c.args.self.now) inner) c.in-Ok-push.ensures
+    listed_more marks items node.label node.inner c.in-Ok-sum_within-2.whole c.in-Ok-own_length.own.pieces c.loop-k.first c.loop-k.others c.args.self.now c.loop-k.self c.push.new.self whole
+    c.in-Ok-own_length.ensures.pieces first others (c.loop-k.invariant.lengths ∙ ap (λ f. listed_lengths marks items f ++ c.args.self.now) inner) c.in-Ok-push.ensures
