@@ -200,7 +200,7 @@ fn drop_and_compare(
 }
 
 /// The templates of which a walk draws.
-static TEMPLATES: [Template; 16] = [
+static TEMPLATES: [Template; 17] = [
     Template::Fixed,
     Template::Bit,
     Template::Char,
@@ -208,6 +208,7 @@ static TEMPLATES: [Template; 16] = [
     Template::IfElse,
     Template::While,
     Template::For,
+    Template::Until,
     Template::Group,
     Template::Get,
     Template::Put,
@@ -246,7 +247,7 @@ pub(crate) fn drawn_steps(
 fn step(number: u32) -> Step<'static> {
     let slot = At::Slot(number % 32);
     let other = At::Slot((number / 32) % 32);
-    let k = (number / 1024) % 16;
+    let k = (number / 1024) % 17;
     let edit = match (number / 16384) % 16 {
         0 => Edit::Take,
         1 => Edit::DropHole,

@@ -13,7 +13,7 @@ use std::alloc::Global;
 use template_tree::{LONGEST_PHRASE, Path, Side, Tree};
 
 /// The words of cases for templates.
-pub(crate) static TEMPLATES: [(&[u8], Template); 16] = [
+pub(crate) static TEMPLATES: [(&[u8], Template); 17] = [
     (b"fixed", Template::Fixed),
     (b"bit", Template::Bit),
     (b"char", Template::Char),
@@ -21,6 +21,7 @@ pub(crate) static TEMPLATES: [(&[u8], Template); 16] = [
     (b"ifelse", Template::IfElse),
     (b"while", Template::While),
     (b"for", Template::For),
+    (b"until", Template::Until),
     (b"group", Template::Group),
     (b"get", Template::Get),
     (b"put", Template::Put),
